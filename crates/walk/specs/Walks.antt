@@ -1,0 +1,40 @@
+-- What a walk leaves in a table of rows, and what it promises in the words of messages.
+use mathlib.Core.Path.{_≡_}
+use mathlib.Core.List.{List}
+use Prim.Native.Nat.{ℕ, _≤_}
+use lib.ListN.{length, take}
+use Rattle.std.specs.declared.result.Result.the-variants.{Ok, Err}
+use Rattle.wire.specs.declared.refusal.Refusal.{Refusal}
+use Rattle.wire.specs.declared.row.Row.{Row}
+use Rattle.wire.specs.declared.row.Walked.{Walked}
+use Rattle.wire.specs.Messages.{Message, encode, pieces}
+use Rattle.wire.specs.Lawful.{Lawful}
+use Rattle.wire.specs.Rows.{walkedOf, filled, Tile, MarksOff}
+use Rattle.wire.specs.Answers.{Answer}
+
+-- a message fills the table, and a refusal leaves it
+abbrev pub tabled : Answer Message → List Row → List Row
+tabled (Ok m) table = filled m table
+tabled (Err f) table = table
+
+-- what walk accepted
+pub record Accepted (bytes : List ℕ) (before : List Row) (w : Walked) (after : List Row) : Type 0 where
+  pub message : Message
+  pub lawful : Lawful message
+  pub is : encode message ≡ bytes
+  pub numbers : w ≡ walkedOf message
+  pub rows : after ≡ filled message before
+  -- the rows lie from the header's end to the last byte, each where the one before ends
+  pub side-by-side : Tile (w .header) (length bytes) (take (w .count) after)
+  -- and each marks off the bytes of its payload
+  pub marked-off : MarksOff bytes (take (w .count) after) (pieces message)
+
+pub record Walks (bytes : List ℕ) (before : List Row) (answer : Answer Walked) (after : List Row) : Type 0 where
+  -- a lawful message's encoding is walked to that message, its rows and its numbers
+  pub read-back : (m : Message) → Lawful m → encode m ≡ bytes → 24 ≤ length before → (answer ≡ Ok (walkedOf m)) × (after ≡ filled m before)
+  -- what is accepted is the encoding of a lawful message
+  pub only-lawful : (w : Walked) → answer ≡ Ok w → Accepted bytes before w after
+  -- and of no other
+  pub told-apart : (m other : Message) → Lawful m → Lawful other → encode m ≡ bytes → encode other ≡ bytes → m ≡ other
+  -- a refusal leaves every row as it was
+  pub unchanged : (f : Refusal) → answer ≡ Err f → after ≡ before

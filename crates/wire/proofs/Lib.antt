@@ -1,0 +1,10 @@
+pub mod Answers
+pub mod Numbers
+pub mod Parts
+pub mod Extents
+pub mod Layouts
+pub mod Sessions
+pub mod Codes
+pub mod Chains
+pub mod Messages
+pub mod Tiling

@@ -1,0 +1,11 @@
+pub mod Octets
+pub mod Kinds
+pub mod Refusals
+pub mod Messages
+pub mod Layouts
+pub mod Lawful
+pub mod Rows
+pub mod Answers
+pub mod Extents
+pub mod Walking
+pub mod Laws
