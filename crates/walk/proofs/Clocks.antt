@@ -16,7 +16,7 @@ use Rattle.wire.proofs.Numbers.{firsts, firsts-rest, value-in-bytes, value-back
 use Rattle.walk.specs.Times.{timing, tPayload, Times}
 
 module _ (p : List ℕ) (n : length p ≡ 10) (type : getD p 1 0 ≡ 0) (y : Octets p) where
-  pub timed : Ok (valueAt 8 2 p) ≡ timing p
+  timed : Ok (valueAt 8 2 p) ≡ timing p
   timed =
       let a : leb 10 (length p) ≡ true = le-leb 10 (length p) (omega arith) in
       let b : leb (length p) 10 ≡ true = le-leb (length p) 10 (omega arith) in
@@ -30,6 +30,7 @@ module _ (p : List ℕ) (n : length p ≡ 10) (type : getD p 1 0 ≡ 0) (y : Oct
 
   pub times : Times p (Ok (valueAt 8 2 p))
   times = record {
+    value = timed;
     read-back = λ next s e. ap Ok (ap (valueAt 8 2) e ∙ value-back 7 s []);
     only = λ s e. payload-is ∙ ap (tPayload (getD p 0 0)) (same-ok (valueAt 8 2 p) s e);
   }

@@ -46,6 +46,8 @@ module _ (bytes : List ℕ) (before after : List Row) (answer : Answer Walked) (
 
   pub walks : Walks bytes before answer after
   walks = record {
+    value = says;
+    rows = leaves;
     read-back = λ m l e h.
         let t : leb 24 (length before) ≡ true = le-leb 24 (length before) h in
         let w : walkingInto (length before) bytes ≡ Ok m = rw t (ap walking (sym e) ∙ read-back m l) in

@@ -23,5 +23,6 @@ tPayload next seconds = next ∷ 0 ∷ inBytes 8 seconds
 
 -- exactly the T payloads are read, each as its seconds
 pub record Times (payload : List ℕ) (answer : Answer ℕ) : Type 0 where
+  pub value : answer ≡ timing payload
   pub read-back : (next seconds : ℕ) → payload ≡ tPayload next seconds → answer ≡ Ok seconds
   pub only : (seconds : ℕ) → answer ≡ Ok seconds → payload ≡ tPayload (getD payload 0 0) seconds

@@ -1,4 +1,4 @@
--- What a walk leaves in a table of rows, and what it promises in the words of messages.
+-- What walk answers and leaves in a table of rows, and what it promises in the words of messages.
 use mathlib.Core.Path.{_≡_}
 use mathlib.Core.List.{List}
 use Prim.Native.Nat.{ℕ, _≤_}
@@ -10,7 +10,8 @@ use Rattle.wire.specs.declared.row.Walked.{Walked}
 use Rattle.wire.specs.Messages.{Message, encode, pieces}
 use Rattle.wire.specs.Lawful.{Lawful}
 use Rattle.wire.specs.Rows.{walkedOf, filled, Tile, MarksOff}
-use Rattle.wire.specs.Answers.{Answer}
+use Rattle.wire.specs.Answers.{Answer, mapOk}
+use Rattle.wire.specs.Walking.{walkingInto}
 
 -- a message fills the table, and a refusal leaves it
 abbrev pub tabled : Answer Message → List Row → List Row
@@ -30,6 +31,9 @@ pub record Accepted (bytes : List ℕ) (before : List Row) (w : Walked) (after :
   pub marked-off : MarksOff bytes (take (w .count) after) (pieces message)
 
 pub record Walks (bytes : List ℕ) (before : List Row) (answer : Answer Walked) (after : List Row) : Type 0 where
+  -- the answer, and the table afterwards
+  pub value : answer ≡ mapOk walkedOf (walkingInto (length before) bytes)
+  pub rows : after ≡ tabled (walkingInto (length before) bytes) before
   -- a lawful message's encoding is walked to that message, its rows and its numbers
   pub read-back : (m : Message) → Lawful m → encode m ≡ bytes → 24 ≤ length before → (answer ≡ Ok (walkedOf m)) × (after ≡ filled m before)
   -- what is accepted is the encoding of a lawful message

@@ -1,6 +1,6 @@
 // The time stamp of a T payload.
-ghost use mathlib.Core.Path.{_≡_};
-ghost use Rattle.walk.specs.Times.{timing, Times};
+ghost use Rattle.wire.specs.Octets.{Octets};
+ghost use Rattle.walk.specs.Times.{Times};
 use wire::Refusal;
 use wire::octets;
 
@@ -9,10 +9,16 @@ const LENGTH: usize = 10;
 
 // Seconds since 0h on 1 January 1900, of a T payload as lookup hands it out.
 pub fn time(payload: &[u8]) -> Result<u64, Refusal>
-    ensures answer { λ r. ⌜ r ≡ timing (now (payload .entry)) ⌝ }
-    ensures promise { λ r. ⌜ Times (now (payload .entry)) r ⌝ }
+    ensures { λ r. ⌜ Times (now (payload .entry)) r ⌝ }
 {
     octets(payload);
+    seconds(payload)
+}
+
+fn seconds(payload: &[u8]) -> Result<u64, Refusal>
+    requires { ⌜ Octets (now payload) ⌝ }
+    ensures { λ r. ⌜ Times (now (payload .entry)) r ⌝ }
+{
     if payload.len() < LENGTH {
         return Err(Refusal::PayloadCut(0));
     }

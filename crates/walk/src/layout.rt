@@ -89,7 +89,7 @@ fn keeps(kind: Kind, body: &[u8]) -> bool
 }
 
 // The length of the body at the front, if it is all there and keeps its rule. It belongs to the payload at `at`.
-pub fn body(kind: Kind, at: usize, rest: &[u8]) -> Result<usize, Refusal>
+pub(crate) fn body(kind: Kind, at: usize, rest: &[u8]) -> Result<usize, Refusal>
     ensures { λ r. ⌜ r ≡ mapOk length (bodyAt kind at (now (rest .entry))) ⌝ }
 {
     let n = reach(kind, rest);

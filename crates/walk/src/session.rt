@@ -12,7 +12,7 @@ use crate::layout::pair;
 use wire::Refusal;
 
 // Whether #CS goes with the map type.
-pub fn map_fits(cs: u8, map_type: u8) -> bool
+pub(crate) fn map_fits(cs: u8, map_type: u8) -> bool
     ensures { λ r. ⌜ r ≡ mapFits cs «map_type» ⌝ }
 {
     match map_type {

@@ -1,6 +1,6 @@
 // The kinds of payload, and the code that names each.
 ghost use mathlib.Core.Path.{_≡_};
-ghost use Rattle.wire.specs.Kinds.{kindOf, codeOf};
+ghost use Rattle.wire.specs.Kinds.{kindOf};
 
 #[derive(Clone, Copy, PartialEq, Eq, Debug)]
 pub enum Kind {
@@ -27,20 +27,6 @@ impl Kind {
             21 => Some(Kind::Ext),
             26 => Some(Kind::Sakke),
             _ => None,
-        }
-    }
-
-    pub fn code(self) -> u8
-        ensures { λ r. ⌜ r ≡ codeOf self ⌝ }
-    {
-        match self {
-            Kind::T => 5,
-            Kind::Rand => 11,
-            Kind::Idr => 14,
-            Kind::Sp => 10,
-            Kind::Sakke => 26,
-            Kind::Ext => 21,
-            Kind::Sign => 4,
         }
     }
 }

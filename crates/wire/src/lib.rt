@@ -3,6 +3,7 @@ mod bytes;
 mod kind;
 mod refusal;
 mod row;
+mod words;
 
 pub use bytes::octets;
 pub use kind::Kind;
@@ -20,3 +21,4 @@ pub use row::RowPartialEq;
 pub use row::Walked;
 pub use row::WalkedDebug;
 pub use row::WalkedPartialEq;
+pub use words::RefusalDisplay;

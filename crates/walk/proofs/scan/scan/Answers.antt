@@ -18,7 +18,7 @@ returns-then-links-message c =
     let h = found (heading m) (λ info. 10 + length info) (c .in-Continue-from .from) (c .in-Continue-from .ensures tt .answer) in
     let e = subst (λ x. Ok l ≡ mapOk linksOf (scanning m x)) (sym (h .2)) (c .in-Continue-links .ensures tt .answer) in
     let w = c .in-Continue-from .ensures tt .within in
-    let t = bytes-left m (h .0) (omega arith) (h .1) (c .octets .ensures) (omega (arith, h .2)) l e (c .chain .last .table) (omega arith) in
+    let t = bytes-left m (h .0) (omega arith) (h .1) (c .pre) (omega (arith, h .2)) l e (c .chain .last .table) (omega arith) in
     record { answer = t .0; rows = t .1; few = tt }
 
 pub returns : need.returns
@@ -29,7 +29,7 @@ returns c =
     let e = subst (λ x. Ok l ≡ mapOk linksOf (scanning m x)) (sym (h .2)) (c .in-Continue-links .ensures tt .answer) in
     let w = c .in-Continue-from .ensures tt .within in
     let holds = subst (λ x. Holds (scanning m x) (c .chain .last .table)) (sym (h .2)) (c .chain .ensures .rows) in
-    let t = whole-message m (h .0) (omega arith) (h .1) (c .octets .ensures) (omega (arith, h .2)) l e (c .chain .last .table) (omega arith) holds in
+    let t = whole-message m (h .0) (omega arith) (h .1) (c .pre) (omega (arith, h .2)) l e (c .chain .last .table) (omega arith) holds in
     record {
       answer = ap (λ x. Ok (record { count = l .count; header = x; span = l .sign + 2 })) (sym (h .2)) ∙ t .0;
       rows = t .1;
