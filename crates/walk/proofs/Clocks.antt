@@ -1,16 +1,15 @@
 -- A T payload and its seconds.
-use mathlib.Core.Path.{_≡_, refl, sym, _∙_, ap, ap₂}
+use mathlib.Core.Path.{_≡_, sym, _∙_, ap, ap₂}
 use mathlib.Core.List.{List, [], _∷_, _++_, append-nil}
 use mathlib.Core.Bool.{true}
-use Prim.Native.Nat.{ℕ, _≤_}
+use Prim.Native.Nat.{ℕ}
 use native.Mathlib.Omega.{arith}
-use lib.Dec.{leb, eqb}
+use lib.Dec.{leb}
 use lib.ListN.{length, getD, drop}
 use Rattle.std.specs.declared.result.Result.the-variants.{Ok}
 use Rattle.std.proofs.shelf.Lists.{drop-all}
-use Rattle.std.proofs.shelf.Tests.{le-leb, eq-eqb}
+use Rattle.std.proofs.shelf.Tests.{le-leb}
 use Rattle.wire.specs.Octets.{Octets, valueAt, inBytes}
-use Rattle.wire.specs.Answers.{Answer}
 use Rattle.wire.proofs.Answers.{same-ok}
 use Rattle.wire.proofs.Numbers.{firsts, firsts-rest, value-in-bytes, value-back}
 use Rattle.walk.specs.Times.{timing, tPayload, Times}

@@ -1,5 +1,5 @@
 -- What walk promises follows from what it answers and leaves.
-use mathlib.Core.Path.{_≡_, refl, sym, _∙_, ap, subst}
+use mathlib.Core.Path.{_≡_, sym, _∙_, ap, subst}
 use mathlib.Core.List.{List, _++_}
 use mathlib.Core.Bool.{true, false}
 use Prim.Native.Nat.{ℕ, _-_, _<_, _≤_}
@@ -13,8 +13,7 @@ use Rattle.wire.specs.declared.refusal.Refusal.the-variants.{FewRows}
 use Rattle.wire.specs.declared.row.Row.{Row}
 use Rattle.wire.specs.declared.row.Walked.{Walked}
 use Rattle.wire.specs.Octets.{Octets}
-use Rattle.wire.specs.Messages.{Message, encode, pieces}
-use Rattle.wire.specs.Lawful.{Lawful}
+use Rattle.wire.specs.Messages.{Message, pieces}
 use Rattle.wire.specs.Rows.{rows, headerLength, walkedOf, blank, filled, Tile, MarksOff}
 use Rattle.wire.specs.Answers.{Answer, mapOk}
 use Rattle.wire.specs.Walking.{walking, walkingInto}

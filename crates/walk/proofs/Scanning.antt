@@ -1,8 +1,8 @@
 -- One payload of a chain, and its row.
 use mathlib.Core.Path.{_≡_, refl, sym, _∙_, ap, ap₂, subst}
 use mathlib.Core.List.{List, [], _∷_, _++_, append-assoc}
-use mathlib.Core.Bool.{Bool, true, false, cond}
-use Prim.Native.Nat.{ℕ, zero, suc, _+_, _-_, _%_, _<_, _≤_}
+use mathlib.Core.Bool.{false}
+use Prim.Native.Nat.{ℕ, zero, suc, _+_, _-_, _<_, _≤_}
 use native.Mathlib.Omega.{arith}
 use lib.ListN.{length, getD, set, take, drop, length-drop}
 use lib.Seq.{drop-drop, length-take-le}
@@ -14,8 +14,8 @@ use Rattle.wire.specs.declared.refusal.Refusal.{Refusal}
 use Rattle.wire.specs.declared.refusal.Refusal.the-variants.{UnknownCode, ExtraPayload}
 use Rattle.wire.specs.declared.row.Row.{Row}
 use Rattle.wire.specs.Kinds.{codeOf, kindOf, isSign, lead}
-use Rattle.wire.specs.Messages.{Payload, withSign, signBody}
-use Rattle.wire.specs.Rows.{slotOf, size, sizes, rowsFrom}
+use Rattle.wire.specs.Messages.{withSign}
+use Rattle.wire.specs.Rows.{slotOf, sizes, rowsFrom}
 use Rattle.wire.specs.Answers.{Answer, mapOk, andThen}
 use Rattle.wire.specs.Extents.{bodyAt}
 use Rattle.wire.specs.Walking.{Chain, chain, kindAt, signed, behind}

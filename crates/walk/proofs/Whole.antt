@@ -1,7 +1,7 @@
 -- A whole message behind its header and its chain of payloads.
-use mathlib.Core.Path.{_≡_, refl, sym, _∙_, ap, ap₂, subst}
-use mathlib.Core.List.{List, [], _∷_, _++_}
-use mathlib.Core.Bool.{Bool, true, false}
+use mathlib.Core.Path.{_≡_, sym, _∙_, ap, ap₂, subst}
+use mathlib.Core.List.{List, [], _++_}
+use mathlib.Core.Bool.{true, false}
 use Prim.Native.Nat.{ℕ, _+_, _-_, _<_, _≤_}
 use native.Mathlib.Omega.{arith}
 use lib.Dec.{leb}
@@ -14,7 +14,7 @@ use Rattle.wire.specs.declared.row.Row.{Row}
 use Rattle.wire.specs.declared.row.Walked.{Walked}
 use Rattle.wire.specs.Octets.{Octets}
 use Rattle.wire.specs.Messages.{Message, payloadsBytes, signBody, pieces, span}
-use Rattle.wire.specs.Rows.{rows, rowsFrom, sizes, walkedOf}
+use Rattle.wire.specs.Rows.{rows, sizes, walkedOf}
 use Rattle.wire.specs.Answers.{Answer, check, andThen, mapOk}
 use Rattle.wire.specs.Walking.{Chain, chain, heading, headerOf, messageOf, walking}
 use Rattle.wire.proofs.Answers.{found}

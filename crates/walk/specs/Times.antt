@@ -1,10 +1,10 @@
 -- The time that a T payload tells.
 use mathlib.Core.Path.{_≡_}
 use mathlib.Core.List.{List, _∷_}
-use Prim.Native.Nat.{ℕ, _<_}
+use Prim.Native.Nat.{ℕ}
 use lib.Dec.{leb, eqb}
 use lib.ListN.{length, getD}
-use Rattle.std.specs.declared.result.Result.the-variants.{Ok, Err}
+use Rattle.std.specs.declared.result.Result.the-variants.{Ok}
 use Rattle.wire.specs.declared.refusal.Refusal.the-variants.{PayloadCut, PayloadRule, BytesLeft}
 use Rattle.wire.specs.Octets.{inBytes, valueAt}
 use Rattle.wire.specs.Answers.{Answer, check}

@@ -1,7 +1,7 @@
 // The payloads of a message, one after the other, up to SIGN.
 ghost use mathlib.Core.Path.{_≡_};
-ghost use Prim.Native.Nat.{ℕ, _+_, _<_, _≤_};
-ghost use lib.ListN.{length, getD, drop};
+ghost use Prim.Native.Nat.{_+_, _≤_};
+ghost use lib.ListN.{length, drop};
 ghost use Rattle.std.specs.Vec.{made};
 ghost use Rattle.wire.specs.Answers.{mapOk};
 ghost use Rattle.wire.specs.Kinds.{lead};

@@ -1,6 +1,6 @@
 // How long a body is by its own length field, and the rule inside it.
 ghost use mathlib.Core.Path.{_≡_};
-ghost use Prim.Native.Nat.{ℕ, _+_, _<_, _≤_};
+ghost use Prim.Native.Nat.{_+_, _<_, _≤_};
 ghost use lib.ListN.{length, getD};
 ghost use Rattle.wire.specs.Answers.{mapOk};
 ghost use Rattle.wire.specs.Octets.{valueAt};

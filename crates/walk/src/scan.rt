@@ -1,6 +1,6 @@
 // A whole message: its header, its payloads, and nothing behind them.
 ghost use mathlib.Core.Path.{_≡_};
-ghost use Prim.Native.Nat.{ℕ, _≤_};
+ghost use Prim.Native.Nat.{_≤_};
 ghost use Rattle.std.specs.Vec.{made};
 ghost use Rattle.wire.specs.Answers.{mapOk};
 ghost use Rattle.wire.specs.Octets.{Octets};

@@ -2,16 +2,14 @@
 use mathlib.Core.Path.{_≡_, refl, sym, _∙_, ap, ap₂, subst}
 use mathlib.Core.List.{List, [], _∷_, _++_, append-assoc}
 use mathlib.Core.Bool.{Bool, true, false, cond}
-use Prim.Native.Nat.{ℕ, zero, suc, _+_, _*_, _/_, _%_, _≤_, _<_}
+use Prim.Native.Nat.{ℕ, zero, suc, _+_, _/_, _%_, _<_}
 use native.Mathlib.Omega.{arith}
 use native.Mathlib.Nat.{zero-add}
 use native.Mathlib.Numerals.{one-add}
-use lib.ListN.{length, take, drop, getD, length-append, length-drop}
-use lib.Seq.{drop-at, drop-drop}
-use Rattle.std.specs.Options.{okOr}
+use lib.ListN.{length, drop, getD, length-append, length-drop}
+use lib.Seq.{drop-at}
 use Rattle.std.specs.shelf.Lists.{All}
-use Rattle.std.specs.declared.option.Option.the-variants.{Some, None}
-use Rattle.std.specs.declared.result.Result.the-variants.{Ok, Err}
+use Rattle.std.specs.declared.result.Result.the-variants.{Ok}
 use Rattle.std.proofs.shelf.Elements.{all-drop}
 use Rattle.std.proofs.shelf.Tests.{ltb-true}
 use Rattle.wire.specs.declared.kind.Kind.{Kind}
@@ -23,7 +21,7 @@ use Rattle.wire.specs.Messages.{Payload, first, payloadsBytes, signBody}
 use Rattle.wire.specs.Layouts.{Body}
 use Rattle.wire.specs.Layouts.Body.{sign}
 use Rattle.wire.specs.Lawful.{LawfulPayload, LawfulSign}
-use Rattle.wire.specs.Answers.{Answer, check, andThen}
+use Rattle.wire.specs.Answers.{andThen}
 use Rattle.wire.specs.Extents.{Whole, extent, inside, bodyAt}
 use Rattle.wire.specs.Walking.{Chain, chain, kindAt, signed, behind}
 use Rattle.wire.proofs.Answers.{andThen-ok, okOr-ok, same-ok, never-ok}

@@ -1,12 +1,11 @@
 -- The bodies that lengths and rules mark off are those that are drawn.
 use mathlib.Core.Path.{_≡_, refl, sym, _∙_, ap, subst}
 use mathlib.Core.List.{List, [], _∷_, _++_}
-use mathlib.Core.Bool.{Bool, true, false}
+use mathlib.Core.Bool.{true, false}
 use mathlib.Core.Logic.{inl, inr}
-use Prim.Native.Nat.{ℕ, zero, suc, _+_, _*_, _/_, _%_, _≤_, _<_}
+use Prim.Native.Nat.{ℕ, zero, suc, _+_, _*_, _/_, _%_, _<_}
 use native.Mathlib.Omega.{arith}
 use lib.ListN.{length, drop, getD, length-drop}
-use lib.Seq.{drop-drop}
 use Rattle.std.proofs.shelf.Elements.{all-drop}
 use Rattle.std.proofs.shelf.Tests.{false≢true, eqb-true, eq-eqb, ltb-true, lt-ltb, cases-bool}
 use Rattle.wire.specs.declared.kind.Kind.{Kind}
@@ -17,8 +16,7 @@ use Rattle.wire.specs.Layouts.{Items, Body, sakkeBody, wraps}
 use Rattle.wire.specs.Layouts.Items.{none, item}
 use Rattle.wire.specs.Layouts.Body.{t, rand, idr, sp, sakke, ext, wrapping, sign}
 use Rattle.wire.specs.Extents.{Whole, extent, inside, items, oneSakke}
-use Rattle.wire.specs.Laws.{Drawn-bodies}
-use Rattle.wire.proofs.Numbers.{firsts, firsts-rest, octet-at, value-in-bytes, sized-from}
+use Rattle.wire.proofs.Numbers.{firsts-rest, value-in-bytes, sized-from}
 
 -- items
 items-past : (value rest : List ℕ) → items (length value) (value ++ rest) ≡ items 0 rest
@@ -132,6 +130,3 @@ body-drawn Sp p = draw-sp p
 body-drawn Sakke p = draw-sakke p
 body-drawn Ext p = draw-ext p
 body-drawn Sign p = draw-sign p
-
-pub drawn-bodies : Drawn-bodies
-drawn-bodies k p y = (body-drawn k p y, body-whole)

@@ -1,9 +1,9 @@
 -- The laws of whole messages.
-use mathlib.Core.Path.{_≡_, refl, sym, _∙_, ap, ap₂, subst}
+use mathlib.Core.Path.{_≡_, refl, sym, _∙_, ap, subst}
 use mathlib.Core.List.{List, [], _∷_, _++_, append-assoc, append-nil}
-use mathlib.Core.Bool.{Bool, true, false, _&&_, _||_}
+use mathlib.Core.Bool.{true, _&&_}
 use mathlib.Core.Logic.{inl, inr}
-use Prim.Native.Nat.{ℕ, zero, suc, _+_, _-_, _*_, _^_, _≤_, _<_}
+use Prim.Native.Nat.{ℕ, _+_, _≤_}
 use native.Mathlib.Omega.{arith}
 use lib.Dec.{leb, ltb, eqb}
 use lib.ListN.{length, drop, getD}
@@ -11,22 +11,19 @@ use lib.Seq.{drop-at, drop-drop}
 use Rattle.std.specs.declared.result.Result.the-variants.{Ok}
 use Rattle.std.proofs.shelf.Elements.{all-drop}
 use Rattle.std.proofs.shelf.Lists.{nil-from-length, length-push}
-use Rattle.std.proofs.shelf.Tests.{leb-true, le-leb, lt-ltb, ltb-true, eqb-true, and-parts, and-from, or-cases, or-left}
+use Rattle.std.proofs.shelf.Tests.{leb-true, le-leb, lt-ltb, ltb-true, eqb-true, and-parts, and-from, or-cases}
 use Rattle.wire.specs.declared.kind.Kind.the-variants.{Sign}
 use Rattle.wire.specs.Octets.{Octets, valueAt, inBytes}
-use Rattle.wire.specs.Kinds.{codeOf}
 use Rattle.wire.specs.Messages.{Header, Message, first, headerBytes, payloadsBytes, signBody, encode, pieces}
 use Rattle.wire.specs.Layouts.{Map, Sessions}
 use Rattle.wire.specs.Layouts.Map.{empty, generic}
 use Rattle.wire.specs.Layouts.Sessions.{none, more}
-use Rattle.wire.specs.Lawful.{Lawful, LawfulHeader}
-use Rattle.wire.specs.Answers.{Answer, check, andThen}
+use Rattle.wire.specs.Lawful.{Lawful}
 use Rattle.wire.specs.Walking.{mapFits, sessions, Chain, chain, heading, headerOf, messageOf, walking}
-use Rattle.wire.specs.Laws.{Read-back, Only-lawful, Told-apart}
 use Rattle.wire.proofs.Answers.{check-ok, andThen-ok, same-ok}
 use Rattle.wire.proofs.Numbers.{firsts, firsts-rest, octet-at, octets-front, value-in-bytes, value-fits, value-back}
-use Rattle.wire.proofs.Sessions.{Found, sessions-there, sessions-back}
-use Rattle.wire.proofs.Chains.{Back, chain-there, chain-back}
+use Rattle.wire.proofs.Sessions.{sessions-there, sessions-back}
+use Rattle.wire.proofs.Chains.{chain-there, chain-back}
 
 -- a map that is drawn passes its test, and its info is found
 map-fits : {cs type : ℕ} {info : List ℕ} → Map cs type info → mapFits cs type ≡ true
@@ -59,7 +56,8 @@ map-drawn cs type info e s =
 pub pieces-count : (m : Message) → length (pieces m) ≡ length (m .payloads) + 1
 pieces-count m = length-push (m .payloads) (record { kind = Sign; body = signBody (m .signType) (m .signature) })
 
-pub read-back : Read-back
+-- what is encoded lawfully is read back
+pub read-back : (m : Message) → Lawful m → walking (encode m) ≡ Ok m
 read-back m l =
     let h : Header = m .header in
     let info : List ℕ = h .mapInfo in
@@ -76,7 +74,8 @@ read-back m l =
     let c = chain-there (m .payloads) 24 2 (10 + length info) (m .signType) (m .signature) [] (l .payloads) (l .sign) (omega (arith, l .count, pieces-count m)) in
     ap walking is ∙ rw (most, least, map, found, rest, c, value-back 3 (h .csb) [])
 
-pub told-apart : Told-apart
+-- no two lawful messages have the same bytes
+pub told-apart : (m other : Message) → Lawful m → Lawful other → encode m ≡ encode other → m ≡ other
 told-apart m other l k e = same-ok m other (sym (read-back m l) ∙ ap walking e ∙ read-back other k)
 
 -- a header of ten bytes and map info, read from bytes, is spelled by them again
@@ -89,7 +88,8 @@ header-is bs info rest next y h v d n e =
     ap (λ x. 1 ∷ 26 ∷ next ∷ getD bs 3 0 ∷ (x ++ (getD bs 8 0 ∷ getD bs 9 0 ∷ info))) c in
     ap (λ x. x ++ rest) p ∙ rw (← v, ← d, ← n, ← e) (sym s)
 
-pub only-lawful : Only-lawful
+-- what is accepted is the encoding of a lawful message
+pub only-lawful : (bs : List ℕ) (m : Message) → Octets bs → walking bs ≡ Ok m → (encode m ≡ bs) × Lawful m
 only-lawful bs m y is =
     let c1 = check-ok (leb (length bs) 8192) _ _ m is in
     let s = andThen-ok (heading bs) _ m (c1 .1) in

@@ -1,9 +1,9 @@
 -- Sessions: those that lengths and rules mark off are those that are drawn, one or several in a row.
 use mathlib.Core.Path.{_≡_, refl, sym, _∙_, ap, ap₂, subst}
 use mathlib.Core.List.{List, [], _∷_, _++_, append-assoc}
-use mathlib.Core.Bool.{Bool, true, false, cond, _||_}
+use mathlib.Core.Bool.{true, cond, _||_}
 use mathlib.Core.Logic.{inl, inr}
-use Prim.Native.Nat.{ℕ, zero, suc, _+_, _*_, _/_, _%_, _≤_, _<_}
+use Prim.Native.Nat.{ℕ, zero, suc, _+_, _*_, _<_}
 use native.Mathlib.Omega.{arith}
 use lib.Dec.{eqb}
 use lib.ListN.{length, take, drop, getD, length-drop, length-append, take-append-drop}
@@ -18,10 +18,8 @@ use Rattle.wire.specs.Layouts.{SessionData, Session, Sessions}
 use Rattle.wire.specs.Layouts.SessionData.{absent, short, long}
 use Rattle.wire.specs.Layouts.Session.{session}
 use Rattle.wire.specs.Layouts.Sessions.{none, more}
-use Rattle.wire.specs.Answers.{Answer, andThen}
 use Rattle.wire.specs.Extents.{Whole, policyCount, sessionFlag, dataLength, sessionExtent, sessionInside, sessionAt}
 use Rattle.wire.specs.Walking.{sessions}
-use Rattle.wire.specs.Laws.{Drawn-sessions}
 use Rattle.wire.proofs.Answers.{andThen-ok, same-ok}
 use Rattle.wire.proofs.Numbers.{firsts, firsts-rest, octet-at, octets-front, value-in-bytes, value-past}
 use Rattle.wire.proofs.Parts.{part-there, part-back}
@@ -124,9 +122,6 @@ module _ (s : List ℕ) (y : Octets s) (w : Whole sessionExtent sessionInside s)
       subst Session (sym session-is)
       (session (getD s 0 0) (sessionFlag s) policies extra spi (omega (arith, octet-at s 2 y)) (omega (arith, policies-long))
       (data-drawn (sessionFlag s) extra (omega (arith, octet-at s 2 y)) (rw extra-long (k .1))))
-
-pub drawn-sessions : Drawn-sessions
-drawn-sessions s y = (session-drawn s y, session-whole)
 
 -- sessions that are drawn are found at the front of bytes, and those that are found were drawn
 pub sessions-there : {n : ℕ} {info : List ℕ} → Sessions n info → (at : ℕ) (r : List ℕ) → sessions n at (info ++ r) ≡ Ok info

@@ -1,20 +1,16 @@
 -- The rows of a message lie side by side, and each marks off its payload's bytes.
 use mathlib.Core.Path.{_≡_, refl, sym, _∙_, ap, subst}
 use mathlib.Core.List.{List, [], _∷_, _++_, append-assoc}
-use mathlib.Core.Bool.{Bool, true, false, cond}
-use Prim.Native.Nat.{ℕ, suc, _+_, _*_, _≤_, _<_}
+use Prim.Native.Nat.{ℕ, suc, _+_}
 use native.Mathlib.Omega.{arith}
 use lib.ListN.{length, take, drop, length-append}
 use lib.Seq.{take-at, drop-at}
 use Rattle.std.specs.shelf.Lists.{All}
 use Rattle.std.proofs.shelf.Lists.{take-all}
 use Rattle.wire.specs.declared.kind.Kind.the-variants.{Sign}
-use Rattle.wire.specs.declared.row.Row.{Row}
-use Rattle.wire.specs.Kinds.{codeOf, lead, isSign}
-use Rattle.wire.specs.Messages.{Header, Payload, Message, first, headerBytes, payloadsBytes, signLength, signBody, encode, span, pieces}
+use Rattle.wire.specs.Messages.{Payload, Message, first, headerBytes, payloadsBytes, signLength, signBody, encode, span, pieces}
 use Rattle.wire.specs.Lawful.{Lawful, LawfulPayload}
 use Rattle.wire.specs.Rows.{size, sizes, rowsFrom, rows, headerLength, Tile, bytesIn, MarksOff}
-use Rattle.wire.specs.Laws.{Side-by-side, Marked-off}
 
 pub rows-count : (at : ℕ) (ps : List Payload) → length (rowsFrom at ps) ≡ length ps
 unfolding rowsFrom
@@ -66,7 +62,7 @@ one-size : (p : Payload) → sizes (p ∷ []) ≡ size p
 unfolding sizes
 one-size p = omega arith
 
-pub side-by-side : Side-by-side
+pub side-by-side : (m : Message) → Lawful m → Tile (headerLength m) (length (encode m)) (rows m)
 side-by-side m l =
     tile (headerLength m) (length (encode m)) (pieces m)
     (omega (arith, sizes-append (m .payloads) (sign m ∷ []), one-size (sign m), encode-length m (l .payloads)))
@@ -93,7 +89,7 @@ marks m front at (p ∷ ps) e l =
       subst (λ y. MarksOff y (rowsFrom (at + size p) (ps ++ (sign m ∷ []))) (ps ++ (sign m ∷ []))) (append-assoc front x rest ∙ sym is) ih,
     )
 
-pub marked-off : Marked-off
+pub marked-off : (m : Message) → Lawful m → MarksOff (encode m) (rows m) (pieces m)
 marked-off m l =
     let h : List ℕ = headerBytes (first 4 (m .payloads)) (m .header) in
     subst (λ x. MarksOff x (rows m) (pieces m)) (sym (append-assoc h (payloadsBytes 4 (m .payloads)) (sign m .body)))

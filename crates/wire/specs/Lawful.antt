@@ -1,11 +1,10 @@
 -- What a lawful message is.
 use mathlib.Core.Path.{_≡_}
 use mathlib.Core.List.{List}
-use mathlib.Core.Bool.{Bool, true, false}
+use mathlib.Core.Bool.{false}
 use Prim.Native.Nat.{ℕ, _^_, _<_, _≤_}
 use lib.ListN.{length}
 use Rattle.std.specs.shelf.Lists.{All}
-use Rattle.wire.specs.declared.kind.Kind.{Kind}
 use Rattle.wire.specs.Octets.{Octets}
 use Rattle.wire.specs.Kinds.{isSign}
 use Rattle.wire.specs.Messages.{Header, Payload, Message, encode, pieces}

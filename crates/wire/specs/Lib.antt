@@ -8,4 +8,3 @@ pub mod Rows
 pub mod Answers
 pub mod Extents
 pub mod Walking
-pub mod Laws

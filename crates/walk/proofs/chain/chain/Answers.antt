@@ -1,15 +1,12 @@
-use mathlib.Core.Path.{_≡_, sym, _∙_, ap, subst}
-use mathlib.Core.List.{[], _∷_, _++_}
-use mathlib.Core.Bool.{false}
-use Prim.Native.Nat.{_+_, _-_, _<_}
+use mathlib.Core.Path.{_≡_, _∙_, ap, subst}
+use Prim.Native.Nat.{_+_, _-_}
 use native.Mathlib.Omega.{arith}
-use lib.ListN.{length, getD, set, take, drop, length-set}
+use lib.ListN.{length, getD, drop, length-set}
 use Rattle.std.specs.declared.result.Result.the-variants.{Ok, Err}
 use Rattle.std.proofs.shelf.Lists.{take-more-set}
 use Rattle.std.proofs.shelf.Results.{err-from-errBy}
 use Rattle.wire.specs.declared.kind.Kind.the-variants.{Sign}
 use Rattle.wire.specs.declared.row.Row.{Row}
-use Rattle.wire.specs.Kinds.{isSign}
 use Rattle.wire.specs.Rows.{slotOf}
 use Rattle.wire.specs.Answers.{mapOk}
 use Rattle.wire.specs.Walking.{chain, kindAt}

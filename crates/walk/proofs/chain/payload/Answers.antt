@@ -1,8 +1,6 @@
-use mathlib.Core.Path.{_≡_, sym, _∙_, ap}
-use mathlib.Core.Bool.{false}
-use Rattle.std.specs.declared.result.Result.the-variants.{Ok, Err}
+use mathlib.Core.Path.{_∙_, ap}
+use Rattle.std.specs.declared.result.Result.the-variants.{Err}
 use Rattle.std.proofs.shelf.Results.{err-from-errBy}
-use Rattle.wire.specs.Kinds.{isSign}
 use Rattle.wire.proofs.Codes.{not-sign}
 use Rattle.walk.proofs.Bodies.{sign-length, other-length, no-payload, length-fits}
 use Rattle.walk.proofs.chain.payload.Needs as need

@@ -1,6 +1,5 @@
 use mathlib.Core.Path.{_≡_}
 use Prim.Native.Nat.{_-_}
-use lib.ListN.{length}
 use native.Mathlib.Omega.{arith}
 use Rattle.walk.proofs.Bodies.{body-found}
 use Rattle.walk.proofs.layout.body.Needs as need

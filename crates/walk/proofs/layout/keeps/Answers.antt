@@ -1,5 +1,5 @@
 use mathlib.Core.Path.{_≡_, sym, _∙_, ap}
-use lib.ListN.{getD, drop}
+use lib.ListN.{getD}
 use Rattle.std.proofs.shelf.Lists.{take-rest}
 use Rattle.wire.specs.Extents.{items, oneSakke, inside}
 use Rattle.walk.proofs.layout.keeps.Needs as need

@@ -4,7 +4,6 @@ use native.Mathlib.Omega.{arith}
 use lib.ListN.{length}
 use Rattle.std.specs.declared.result.Result.the-variants.{Ok}
 use Rattle.wire.specs.Answers.{mapOk}
-use Rattle.wire.specs.declared.row.Walked.{Walked}
 use Rattle.wire.specs.Walking.{heading}
 use Rattle.wire.proofs.Answers.{found}
 use Rattle.walk.specs.Scans.{scanning, linksOf, Holds}
