@@ -13,29 +13,20 @@ use Rattle.std.specs.declared.result.Result.the-variants.{Ok, Err}
 use Rattle.std.proofs.shelf.Lists.{take-rest, drop-all}
 use Rattle.std.proofs.shelf.Tests.{le-leb, lt-leb}
 use Rattle.wire.specs.declared.kind.Kind.{Kind}
-use Rattle.wire.specs.declared.kind.Kind.the-variants.{T, Rand, Idr, Sp, Sakke, Ext, Sign}
+use Rattle.wire.specs.declared.kind.Kind.the-variants.{Sign}
 use Rattle.wire.specs.declared.refusal.Refusal.the-variants.{PayloadCut}
 use Rattle.wire.specs.Kinds.{isSign, lead}
 use Rattle.wire.specs.Answers.{Answer, mapOk}
 use Rattle.wire.specs.Extents.{extent, inside, bodyAt}
 use Rattle.wire.proofs.Answers.{mapOk-same, mapOk-twice, found}
 use Rattle.wire.proofs.Chains.{body-back}
-use Rattle.wire.proofs.Extents.{extent-some}
+use Rattle.wire.proofs.Extents.{extent-some, payload-some}
 
 pub body-found : (k : Kind) (at n : ℕ) (bs : List ℕ) → n ≡ extent k bs → n ≤ length bs → true ≡ inside k (take n bs) → Ok n ≡ mapOk length (bodyAt k at bs)
 body-found k at n bs e h t =
     let l : leb n (length bs) ≡ true = le-leb n (length bs) h in
     let s : length (take n bs) ≡ n = length-take-le n bs h in
     rw (← e, l, ← t, s)
-
-payload-some : (k : Kind) (p : List ℕ) → 2 ≤ lead k + extent k p
-payload-some T p = omega arith
-payload-some Rand p = omega arith
-payload-some Idr p = omega arith
-payload-some Sp p = omega arith
-payload-some Sakke p = omega arith
-payload-some Ext p = omega arith
-payload-some Sign p = omega arith
 
 -- the payload at `at`, by its length
 module _ (m : List ℕ) (k : Kind) (at : ℕ) where

@@ -5,8 +5,10 @@ use Prim.Native.Nat.{ℕ, _+_, _%_, _≤_, _<_}
 use native.Mathlib.Omega.{arith}
 use lib.ListN.{length}
 use Rattle.std.proofs.shelf.Lists.{getD-append-left}
+use Rattle.std.proofs.shelf.Tests.{cond-both}
 use Rattle.wire.specs.declared.kind.Kind.{Kind}
 use Rattle.wire.specs.declared.kind.Kind.the-variants.{T, Rand, Idr, Sp, Sakke, Ext, Sign}
+use Rattle.wire.specs.Kinds.{isSign, lead}
 use Rattle.wire.specs.Octets.{valueAt}
 use Rattle.wire.specs.Extents.{extent, policyCount, dataLength, sessionExtent}
 use Rattle.wire.proofs.Numbers.{value-same}
@@ -24,14 +26,20 @@ extent-local Sakke = four-on
 extent-local Ext = local (extent Ext) 3 (λ p. omega arith) (λ p r h. ap (λ n. 3 + n) (value-same 2 1 p r h))
 extent-local Sign = local (extent Sign) 2 (λ p. omega arith) (λ p r h. ap (λ n. 2 + n % 4096) (value-same 2 0 p r h))
 
+-- no payload is shorter than two bytes, and no body is empty
+pub payload-some : (k : Kind) (p : List ℕ) → 2 ≤ lead k + extent k p
+payload-some T p = omega arith
+payload-some Rand p = omega arith
+payload-some Idr p = omega arith
+payload-some Sp p = omega arith
+payload-some Sakke p = omega arith
+payload-some Ext p = omega arith
+payload-some Sign p = omega arith
+
 pub extent-some : (k : Kind) (p : List ℕ) → 1 ≤ extent k p
-extent-some T p = omega arith
-extent-some Rand p = omega arith
-extent-some Idr p = omega arith
-extent-some Sp p = omega arith
-extent-some Sakke p = omega arith
-extent-some Ext p = omega arith
-extent-some Sign p = omega arith
+extent-some k p =
+    let most : lead k ≤ 1 = cond-both (isSign k) 0 1 (λ n. n ≤ 1) (λ e. omega arith) (λ e. omega arith) in
+    omega (arith, payload-some k p)
 
 policies-same : (p r : List ℕ) → 2 < length p → policyCount (p ++ r) ≡ policyCount p
 policies-same p r h = ap (λ n. n % 128) (getD-append-left p r 0 2 h)

@@ -8,7 +8,7 @@ use lib.Seq.{take-at, drop-at}
 use Rattle.std.specs.shelf.Lists.{All}
 use Rattle.std.proofs.shelf.Lists.{take-all}
 use Rattle.wire.specs.declared.kind.Kind.the-variants.{Sign}
-use Rattle.wire.specs.Messages.{Payload, Message, first, headerBytes, payloadsBytes, signLength, signBody, encode, span, pieces}
+use Rattle.wire.specs.Messages.{Header, Payload, Message, first, headerBytes, payloadsBytes, front, signLength, signBody, encode, span, pieces}
 use Rattle.wire.specs.Lawful.{Lawful, LawfulPayload}
 use Rattle.wire.specs.Rows.{size, sizes, rowsFrom, rows, headerLength, Tile, bytesIn, MarksOff}
 
@@ -33,25 +33,18 @@ payloads-length end (p ∷ ps) l =
 abbrev sign : Message → Payload
 sign m = record { kind = Sign; body = signBody (m .signType) (m .signature) }
 
+-- header and payloads
+pub front-length : (end : ℕ) (h : Header) (ps : List Payload) → All LawfulPayload ps → length (front end h ps) ≡ 10 + length (h .mapInfo) + sizes ps
+front-length end h ps l =
+    omega (arith, length-append (headerBytes (first end ps) h) (payloadsBytes end ps), payloads-length end ps l)
+
 pub encode-length : (m : Message) → All LawfulPayload (m .payloads) → length (encode m) ≡ headerLength m + sizes (m .payloads) + 2 + length (m .signature)
 encode-length m l =
-    let h : List ℕ = headerBytes (first 4 (m .payloads)) (m .header) in
-    omega (
-      arith,
-      length-append (h ++ payloadsBytes 4 (m .payloads)) (signBody (m .signType) (m .signature)),
-      length-append h (payloadsBytes 4 (m .payloads)),
-      payloads-length 4 (m .payloads) l,
-    )
+    omega (arith, length-append (front 4 (m .header) (m .payloads)) (signBody (m .signType) (m .signature)), front-length 4 (m .header) (m .payloads) l)
 
 pub span-length : (m : Message) → All LawfulPayload (m .payloads) → length (span m) ≡ headerLength m + sizes (m .payloads) + 2
 span-length m l =
-    let h : List ℕ = headerBytes (first 4 (m .payloads)) (m .header) in
-    omega (
-      arith,
-      length-append (h ++ payloadsBytes 4 (m .payloads)) (signLength (m .signType) (m .signature)),
-      length-append h (payloadsBytes 4 (m .payloads)),
-      payloads-length 4 (m .payloads) l,
-    )
+    omega (arith, length-append (front 4 (m .header) (m .payloads)) (signLength (m .signType) (m .signature)), front-length 4 (m .header) (m .payloads) l)
 
 tile : (at to : ℕ) (ps : List Payload) → at + sizes ps ≡ to → Tile at to (rowsFrom at ps)
 unfolding sizes Tile rowsFrom
