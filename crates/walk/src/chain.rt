@@ -79,7 +79,7 @@ fn payload(message: &[u8], kind: Kind, at: usize) -> Result<usize, Refusal>
 
 // The rows of the payloads from a place on go into the table.
 pub(crate) fn chain(message: &[u8], from: usize, table: &mut [Row; 24]) -> Result<Links, Refusal>
-    requires { ⌜ 10 ≤ from ⌝ ∗ ⌜ from ≤ length (now message) ⌝ }
+    requires { ⌜ 10 ≤ from ⌝ ∗ ⌜ from ≤ length (now message) ⌝ ∗ ⌜ length (now message) ≤ 8192 ⌝ }
     ensures answer { λ r. ⌜ r ≡ mapOk linksOf (scanning (now (message .entry)) from) ⌝ }
     ensures rows { λ _. ⌜ Holds (scanning (now (message .entry)) from) (now (table .exit)) ⌝ }
     ensures within { λ r. ⌜ made r (Inside (length (now (message .entry)))) ⌝ }
@@ -93,8 +93,8 @@ pub(crate) fn chain(message: &[u8], from: usize, table: &mut [Row; 24]) -> Resul
         table[i] = Row {
             code,
             slot: slot(kind, byte(message, at + 1)),
-            start: at,
-            length,
+            start: at as u32,
+            length: length as u32,
         };
         if kind == Kind::Sign {
             return Ok(Links {

@@ -14,13 +14,13 @@ pub struct Part<'a> {
 pub fn lookup<'a>(message: &'a [u8], row: &Row) -> Result<Part<'a>, Refusal>
     ensures { λ r. ⌜ HandsOut (now (message .entry)) (now (row .entry)) r ⌝ }
 {
-    if row.start <= message.len() && row.length <= message.len() - row.start {
-        let end = row.start + row.length;
-        Ok(Part {
-            bytes: &message[row.start..end],
-            place: row.start,
-        })
-    } else {
-        Err(Refusal::RowOutside)
+    let start = row.start as usize;
+    let end = start + row.length as usize;
+    if end > message.len() {
+        return Err(Refusal::RowOutside);
     }
+    Ok(Part {
+        bytes: &message[start..end],
+        place: start,
+    })
 }

@@ -109,14 +109,14 @@ fn bodies_whole_and_cut(rt: LibcRuntime) -> Result<(), Fail> {
     for (code, slot, body) in BODIES {
         let mut rows = [OLD; 24];
         let whole = signed(rt.alloc(), code, body)?;
-        let length = body.len().saturating_add(1);
+        let length = u32::try_from(body.len())?.saturating_add(1);
         let start = length.saturating_add(10);
         check_eq(
             walk(&whole, &mut rows),
             Ok(Walked {
                 count: 2,
                 header: 10,
-                span: start.saturating_add(2),
+                span: start.saturating_add(2) as usize,
             }),
         )?;
         check_eq(
@@ -299,7 +299,7 @@ fn parts_of_a_message() -> Result<(), Fail> {
         },
     )?;
     check_eq(whole.bytes.len(), 0)?;
-    for (start, length) in [(1, 5), (6, 0), (2, usize::MAX), (usize::MAX, 1)] {
+    for (start, length) in [(1, 5), (6, 0), (2, u32::MAX), (u32::MAX, 1)] {
         match lookup(
             &message,
             &Row {

@@ -3,8 +3,8 @@
 pub struct Row {
     pub code: u8,
     pub slot: u8,
-    pub start: usize,
-    pub length: usize,
+    pub start: u32,
+    pub length: u32,
 }
 
 impl Row {
