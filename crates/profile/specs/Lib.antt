@@ -1,3 +1,9 @@
 pub mod Tables
 pub mod Values
 pub mod Fixed
+pub mod Fields
+pub mod Admits
+pub mod Admitting
+pub mod Sheets
+pub mod Parsing
+pub mod Choices

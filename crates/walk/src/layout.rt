@@ -7,20 +7,17 @@ ghost use Rattle.wire.specs.Octets.{valueAt};
 ghost use Rattle.wire.specs.Extents.{extent, inside, items, oneSakke, bodyAt};
 use wire::Kind;
 use wire::Refusal;
+use wire::byte_at;
 
 // The EXT type whose content is one SAKKE payload.
 const WRAPPING: usize = 6;
 
-// The byte at a place, or 0 past the end.
+// The byte at a place as a length.
 pub(crate) fn byte(bytes: &[u8], at: usize) -> usize
     ensures is { λ r. ⌜ r ≡ getD (now (bytes .entry)) at 0 ⌝ }
     ensures small { λ r. ⌜ r < 256 ⌝ }
 {
-    if at < bytes.len() {
-        bytes[at] as usize
-    } else {
-        0
-    }
+    byte_at(bytes, at) as usize
 }
 
 // The number in the two bytes from a place on.

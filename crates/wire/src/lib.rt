@@ -5,6 +5,7 @@ mod refusal;
 mod row;
 mod words;
 
+pub use bytes::byte_at;
 pub use bytes::octets;
 pub use kind::Kind;
 pub use kind::KindDebug;
