@@ -10,31 +10,20 @@ use lib.ListN.{length}
 use Rattle.std.specs.shelf.Lists.{All}
 use Rattle.std.specs.declared.result.Result.the-variants.{Ok}
 use Rattle.std.proofs.shelf.Tests.{leb-true, le-leb, eqb-true, eq-eqb, cases-bool}
-use Rattle.std.proofs.shelf.Elements.{all-weaker, all-append}
+use Rattle.std.proofs.shelf.Elements.{all-weaker}
 use Rattle.wire.specs.declared.row.Row.{Row}
 use Rattle.wire.specs.Kinds.{codeOf}
 use Rattle.wire.specs.Messages.{Payload, Message, encode, pieces}
-use Rattle.wire.specs.Layouts.{Body}
-use Rattle.wire.specs.Layouts.Body.{sign}
-use Rattle.wire.specs.Lawful.{Lawful, LawfulPayload}
+use Rattle.wire.specs.Lawful.{Lawful}
 use Rattle.wire.specs.Rows.{slot, size, rowsFrom, rows, headerLength, MarksOff}
 use Rattle.wire.proofs.Answers.{check-ok, andThen-ok, same-ok}
-use Rattle.wire.proofs.Tiling.{marked-off}
+use Rattle.wire.proofs.Tiling.{Drawn, pieces-drawn, marked-off}
 use Rattle.profile.specs.Tables.{Tables}
 use Rattle.profile.specs.Fields.{Field, fields}
 use Rattle.profile.specs.Admits.{slots, count, slotsOf, Taken, Rising, Counted, Admits}
 use Rattle.profile.specs.Admitting.{headerIn, fieldsIn, slotsIn, taking, fitted, fitting, sufficient, sufficing, admitting}
 use Rattle.profile.proofs.Slots.{count-append, slots-append, slots-same, at-slot}
 use Rattle.profile.proofs.Places.{header-same, taken-same}
-
--- payloads as drawn, SIGN among them
-abbrev Drawn : Payload → Type 0
-Drawn p = Body (p .kind) (p .body)
-
-pieces-drawn : (m : Message) → Lawful m → All Drawn (pieces m)
-pieces-drawn m l =
-    all-append Drawn (m .payloads) _ (all-weaker LawfulPayload Drawn (λ p h. h .body) (m .payloads) (l .payloads))
-    (sign (m .signType) (m .signature) (l .sign .least) (l .sign .most), tt)
 
 module _ (P : Tables) where
   taking-ok : (fs : List Field) (u : Unit {0}) → taking P fs ≡ Ok u → Taken P fs

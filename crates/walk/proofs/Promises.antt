@@ -1,5 +1,5 @@
 -- What walk promises follows from what it answers and leaves.
-use mathlib.Core.Path.{_≡_, sym, _∙_, ap, subst}
+use mathlib.Core.Path.{_≡_, refl, sym, _∙_, ap, subst}
 use mathlib.Core.List.{List, _++_}
 use mathlib.Core.Bool.{true, false}
 use Prim.Native.Nat.{ℕ, _-_, _<_, _≤_}
@@ -13,7 +13,8 @@ use Rattle.wire.specs.declared.refusal.Refusal.the-variants.{FewRows}
 use Rattle.wire.specs.declared.row.Row.{Row}
 use Rattle.wire.specs.declared.row.Walked.{Walked}
 use Rattle.wire.specs.Octets.{Octets}
-use Rattle.wire.specs.Messages.{Message, pieces}
+use Rattle.wire.specs.Messages.{Message, encode, pieces}
+use Rattle.wire.specs.Lawful.{Lawful}
 use Rattle.wire.specs.Rows.{rows, headerLength, walkedOf, blank, filled, Tile, MarksOff}
 use Rattle.wire.specs.Answers.{Answer, mapOk}
 use Rattle.wire.specs.Walking.{walking, walkingInto}
@@ -21,27 +22,29 @@ use Rattle.wire.proofs.Answers.{check-ok, found, refused}
 use Rattle.wire.proofs.Messages.{read-back, only-lawful, told-apart}
 use Rattle.wire.proofs.Tiling.{rows-count, side-by-side, marked-off}
 use Rattle.walk.specs.Scans.{HoldsRows}
-use Rattle.walk.specs.Walks.{tabled, Accepted, Walks}
+use Rattle.walk.specs.Walks.{tabled, Told, Walks}
+
+-- a message that is told
+pub told : (m : Message) (before after : List Row) → Lawful m → after ≡ filled m before → Told m (encode m) before (walkedOf m) after
+told m before after l is =
+    let first : take (length (pieces m)) after ≡ rows m = ap (take (length (pieces m))) is ∙ take-at (rows m) _ _ (rows-count (headerLength m) (pieces m)) in
+    record {
+      lawful = l;
+      is = refl;
+      numbers = refl;
+      rows = is;
+      side-by-side = subst (λ x. Tile (headerLength m) (length (encode m)) x) (sym first) (side-by-side m l);
+      marked-off = subst (λ x. MarksOff (encode m) x (pieces m)) (sym first) (marked-off m l);
+    }
 
 module _ (bytes : List ℕ) (before after : List Row) (answer : Answer Walked) (y : Octets bytes)
     (says : answer ≡ mapOk walkedOf (walkingInto (length before) bytes)) (leaves : after ≡ tabled (walkingInto (length before) bytes) before) where
-  accepted : (m : Message) (w : Walked) → walkingInto (length before) bytes ≡ Ok m → walkedOf m ≡ w → Accepted bytes before w after
+  accepted : (m : Message) (w : Walked) → walkingInto (length before) bytes ≡ Ok m → walkedOf m ≡ w → Told m bytes before w after
   accepted m w e n =
       let c = check-ok (leb 24 (length before)) _ (walking bytes) m e in
       let l = only-lawful bytes m y (c .1) in
       let is : after ≡ filled m before = leaves ∙ ap (λ x. tabled x before) e in
-      let first : take (w .count) after ≡ rows m =
-      ap (take (w .count)) is ∙ take-at (rows m) _ (w .count) (rows-count (headerLength m) (pieces m) ∙ ap (λ x. x .count) n) in
-      record {
-        message = m;
-        lawful = l .1;
-        is = l .0;
-        numbers = sym n;
-        rows = is;
-        side-by-side = subst (λ x. Tile (w .header) (length bytes) x) (sym first)
-            (subst (λ x. Tile (x .header) (length bytes) (rows m)) n (subst (λ x. Tile (headerLength m) (length x) (rows m)) (l .0) (side-by-side m (l .1))));
-        marked-off = subst (λ x. MarksOff bytes x (pieces m)) (sym first) (subst (λ x. MarksOff x (rows m) (pieces m)) (l .0) (marked-off m (l .1)));
-      }
+      subst (λ x. Told m x before w after) (l .0) (subst (λ x. Told m (encode m) before x after) n (told m before after (l .1) is))
 
   pub walks : Walks bytes before answer after
   walks = record {
@@ -51,7 +54,7 @@ module _ (bytes : List ℕ) (before after : List Row) (answer : Answer Walked) (
         let t : leb 24 (length before) ≡ true = le-leb 24 (length before) h in
         let w : walkingInto (length before) bytes ≡ Ok m = rw t (ap walking (sym e) ∙ read-back m l) in
         (says ∙ ap (mapOk walkedOf) w, leaves ∙ ap (λ x. tabled x before) w);
-    only-lawful = λ w e. let f = found (walkingInto (length before) bytes) walkedOf w (sym e ∙ says) in accepted (f .0) w (f .1) (f .2);
+    only-lawful = λ w e. let f = found (walkingInto (length before) bytes) walkedOf w (sym e ∙ says) in (f .0, accepted (f .0) w (f .1) (f .2));
     told-apart = λ m other l k e o. told-apart m other l k (e ∙ sym o);
     unchanged = λ f e. leaves ∙ ap (λ x. tabled x before) (refused (walkingInto (length before) bytes) walkedOf f (sym e ∙ says));
   }

@@ -18,17 +18,16 @@ abbrev pub tabled : Answer Message → List Row → List Row
 tabled (Ok m) table = filled m table
 tabled (Err f) table = table
 
--- what walk accepted
-pub record Accepted (bytes : List ℕ) (before : List Row) (w : Walked) (after : List Row) : Type 0 where
-  pub message : Message
-  pub lawful : Lawful message
-  pub is : encode message ≡ bytes
-  pub numbers : w ≡ walkedOf message
-  pub rows : after ≡ filled message before
+-- m is the message that is told of the bytes
+pub record Told (m : Message) (bytes : List ℕ) (before : List Row) (w : Walked) (after : List Row) : Type 0 where
+  pub lawful : Lawful m
+  pub is : encode m ≡ bytes
+  pub numbers : w ≡ walkedOf m
+  pub rows : after ≡ filled m before
   -- the rows lie from the header's end to the last byte, each where the one before ends
   pub side-by-side : Tile (w .header) (length bytes) (take (w .count) after)
   -- and each marks off the bytes of its payload
-  pub marked-off : MarksOff bytes (take (w .count) after) (pieces message)
+  pub marked-off : MarksOff bytes (take (w .count) after) (pieces m)
 
 pub record Walks (bytes : List ℕ) (before : List Row) (answer : Answer Walked) (after : List Row) : Type 0 where
   -- the answer, and the table afterwards
@@ -37,7 +36,7 @@ pub record Walks (bytes : List ℕ) (before : List Row) (answer : Answer Walked)
   -- a lawful message's encoding is walked to that message, its rows and its numbers
   pub read-back : (m : Message) → Lawful m → encode m ≡ bytes → 24 ≤ length before → (answer ≡ Ok (walkedOf m)) × (after ≡ filled m before)
   -- what is accepted is the encoding of a lawful message
-  pub only-lawful : (w : Walked) → answer ≡ Ok w → Accepted bytes before w after
+  pub only-lawful : (w : Walked) → answer ≡ Ok w → (m : Message) × Told m bytes before w after
   -- and of no other
   pub told-apart : (m other : Message) → Lawful m → Lawful other → encode m ≡ bytes → encode other ≡ bytes → m ≡ other
   -- a refusal leaves every row as it was

@@ -7,8 +7,11 @@ use lib.ListN.{length, take, drop, length-append}
 use lib.Seq.{take-at, drop-at}
 use Rattle.std.specs.shelf.Lists.{All}
 use Rattle.std.proofs.shelf.Lists.{take-all}
+use Rattle.std.proofs.shelf.Elements.{all-weaker, all-append}
 use Rattle.wire.specs.declared.kind.Kind.the-variants.{Sign}
 use Rattle.wire.specs.Messages.{Header, Payload, Message, first, headerBytes, payloadsBytes, front, signLength, signBody, encode, span, pieces}
+use Rattle.wire.specs.Layouts.{Body}
+use Rattle.wire.specs.Layouts.Body.{sign as sign-drawn}
 use Rattle.wire.specs.Lawful.{Lawful, LawfulPayload}
 use Rattle.wire.specs.Rows.{size, sizes, rowsFrom, rows, headerLength, Tile, bytesIn, MarksOff}
 
@@ -87,3 +90,12 @@ marked-off m l =
     let h : List ℕ = headerBytes (first 4 (m .payloads)) (m .header) in
     subst (λ x. MarksOff x (rows m) (pieces m)) (sym (append-assoc h (payloadsBytes 4 (m .payloads)) (sign m .body)))
     (marks m h (headerLength m) (m .payloads) (omega arith) (l .payloads))
+
+-- payloads as drawn, SIGN among them
+abbrev pub Drawn : Payload → Type 0
+Drawn p = Body (p .kind) (p .body)
+
+pub pieces-drawn : (m : Message) → Lawful m → All Drawn (pieces m)
+pieces-drawn m l =
+    all-append Drawn (m .payloads) _ (all-weaker LawfulPayload Drawn (λ p h. h .body) (m .payloads) (l .payloads))
+    (sign-drawn (m .signType) (m .signature) (l .sign .least) (l .sign .most), tt)
