@@ -21,6 +21,7 @@ pub(crate) const BLANK: Place = Place {
 };
 
 // The first `count` places are taken.
+#[derive(Drop)]
 pub(crate) struct Signers {
     pub(crate) places: [Place; 8],
     pub(crate) count: usize,

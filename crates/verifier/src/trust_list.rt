@@ -7,6 +7,7 @@ use crate::interface::Verifier;
 use crate::places::Signers;
 use wire::Refusal;
 
+#[derive(Drop)]
 pub struct TrustList<V> {
     inner: V,
     signers: Signers,

@@ -13,15 +13,15 @@ fn words(refusal: &Refusal) -> &'static str {
         Refusal::SessionCut(_) => "a session runs past the end",
         Refusal::SessionRule(_) =>
             "a session's Prot type is not 0, or the length of its data does not go with its S flag",
-        Refusal::UnknownCode(_) => "this byte names no known payload",
-        Refusal::ExtraPayload(_) => "a 25th payload begins here",
+        Refusal::UnknownCode(_) => "a code names no known payload",
+        Refusal::ExtraPayload(_) => "there is a 25th payload",
         Refusal::PayloadCut(_) => "a payload runs past the end",
         Refusal::PayloadRule(_) => "a payload breaks the rule inside it",
         Refusal::BytesLeft(_) => "bytes are left behind the last payload",
-        Refusal::FieldNotTaken { .. } => "the profile does not take the value of a field",
-        Refusal::RankFalls { .. } => "a payload's rank is below that of the payload before it",
-        Refusal::AboveMost { .. } => "a slot stands more often than the profile allows",
-        Refusal::BelowLeast { .. } => "a slot stands less often than the profile asks",
+        Refusal::FieldNotTaken { .. } => "the profile does not take this value",
+        Refusal::RankFalls { .. } => "a payload has a lower rank than the one before it",
+        Refusal::AboveMost { .. } => "a payload stands more often than the profile allows",
+        Refusal::BelowLeast { .. } => "a payload stands less often than the profile asks",
         Refusal::NotPassed(_) => "the verifier does not pass the signature",
         Refusal::NoHeader => "the draft has no header yet",
         Refusal::NoPosition => "the draft has no such position",
@@ -39,8 +39,68 @@ fn words(refusal: &Refusal) -> &'static str {
     }
 }
 
+// What a payload in a slot is.
+fn slot_words(slot: u8) -> &'static str {
+    match slot {
+        1 => "T",
+        2 => "RAND",
+        3 => "IDR of role 1",
+        4 => "IDR of role 2",
+        5 => "IDR of role 6",
+        6 => "IDR of role 7",
+        7 => "SP",
+        8 => "SAKKE",
+        9 => "EXT of type 6",
+        10 => "EXT of type 7",
+        11 => "SIGN",
+        _ => "another IDR or EXT",
+    }
+}
+
+fn field_words(field: u8) -> &'static str {
+    match field {
+        1 => "V",
+        2 => "PRF func",
+        3 => "the purpose",
+        4 => "#CS",
+        5 => "RAND len",
+        6 => "ID type",
+        7 => "Prot type",
+        8 => "SAKKE params",
+        9 => "ID scheme",
+        10 => "S type",
+        _ => "an unknown field",
+    }
+}
+
+// A place that is 0 is not told: it is the first byte, or none.
+fn write_place<W: fmt::Write>(f: &mut fmt::Formatter<W>, place: usize) -> fmt::Result {
+    if place == 0 {
+        return Ok(());
+    }
+    write!(f, ", byte {place}")
+}
+
 pub impl fmt::Display for Refusal as RefusalDisplay {
     fn fmt<W: fmt::Write>(&self, f: &mut fmt::Formatter<W>) -> fmt::Result {
-        f.write_str(words(self))
+        f.write_str(words(self))?;
+        match self {
+            Refusal::FieldNotTaken { byte, field } => {
+                write!(f, ": {}", field_words(*field))?;
+                write_place(f, *byte)
+            }
+            Refusal::RankFalls { start, slot } => {
+                write!(f, ": {}", slot_words(*slot))?;
+                write_place(f, *start)
+            }
+            Refusal::AboveMost { start, slot } => {
+                write!(f, ": {}", slot_words(*slot))?;
+                write_place(f, *start)
+            }
+            Refusal::BelowLeast { slot, .. } => write!(f, ": {}", slot_words(*slot)),
+            Refusal::TooLong => Ok(()),
+            Refusal::TooShort(_) => Ok(()),
+            _ => write_place(f, self.told().place),
+        }
     }
 }
