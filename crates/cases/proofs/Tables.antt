@@ -2,10 +2,8 @@
 use Rattle.std.proofs.Common.{refl}
 use Rattle.wire.specs.Rows.{rows_from}
 use Rattle.wire.specs.Walking.{sessions, chain}
-use Rattle.profile.specs.Admitting.{fitting}
-use Rattle.profile.specs.Parsing.{lines_from}
 use Rattle.cases.specs.Cases.{Tried}
 
 pub tried : Tried
-unfolding rows_from sessions chain fitting lines_from
-tried = (refl, (refl, (refl, (refl, (refl, (refl, (refl, (refl, (refl, (refl, (refl, tt)))))))))))
+unfolding rows_from sessions chain
+tried = (refl, (refl, (refl, (refl, (refl, (refl, (refl, tt)))))))

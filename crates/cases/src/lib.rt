@@ -8,7 +8,7 @@ pub fn tried() -> usize
     ensures tried { Tried }
 {
     hold();
-    11
+    7
 }
 
 fn hold()

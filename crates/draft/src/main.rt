@@ -1,4 +1,6 @@
 // Drafts a message by a script of calls on standard input.
+#![tactic(auto)]
+
 mod hex;
 mod line;
 

@@ -3,7 +3,7 @@ ghost use Rattle.std.specs.Prelude.{◌≡◌};
 ghost use Rattle.wire.specs.Octets.{Octets};
 ghost use Rattle.plain.specs.Steps.{step};
 ghost use Rattle.plain.specs.Turns.{delivering};
-ghost use Rattle.plain.specs.Steps.Step.{sign as signStep, withdraw as withdrawStep, release as releaseStep};
+ghost use Rattle.plain.specs.Steps.Step.{sign as sign_step, withdraw as withdraw_step, release as release_step};
 ghost use Rattle.plain.specs.declared.calls.Reply.TheVariants.{Released};
 ghost use Rattle.drafter.specs.declared.core.Phase.TheVariants as phase;
 ghost use Rattle.drafter.specs.Cores.{plain_of};
@@ -18,8 +18,8 @@ impl<'a> Core<'a> {
     fn deliver(&mut self, signature: &[u8]) -> Result<usize, Refusal>
         requires draft { Signed self.old }
         requires octets { Octets signature.now }
-        ensures answer { delivering result ≡ (step self.old.counted (plain_of self.old) (signStep signature.now)).reply }
-        ensures follows { Follows (signStep signature.now) self.old self.new }
+        ensures answer { delivering result ≡ (step self.old.counted (plain_of self.old) (sign_step signature.now)).reply }
+        ensures follows { Follows (sign_step signature.now) self.old self.new }
         ensures name { self.new.buffer.ghost_name ≡ self.old.buffer.ghost_name }
     {
         let start = self.end + 2;
@@ -36,8 +36,8 @@ impl<'a> Core<'a> {
     pub(crate) fn sign(&mut self, signature: &[u8]) -> Result<usize, Refusal>
         requires draft { OutDraft self.old }
         requires octets { Octets signature.now }
-        ensures answer { delivering result ≡ (step self.old.counted (plain_of self.old) (signStep signature.now)).reply }
-        ensures follows { Follows (signStep signature.now) self.old self.new }
+        ensures answer { delivering result ≡ (step self.old.counted (plain_of self.old) (sign_step signature.now)).reply }
+        ensures follows { Follows (sign_step signature.now) self.old self.new }
         ensures name { self.new.buffer.ghost_name ≡ self.old.buffer.ghost_name }
     {
         match self.phase {
@@ -50,7 +50,7 @@ impl<'a> Core<'a> {
     // SIGN goes, if it stands, and the draft is open again.
     pub(crate) fn withdraw(&mut self)
         requires { OutDraft self.old }
-        ensures follows { Follows withdrawStep self.old self.new }
+        ensures follows { Follows withdraw_step self.old self.new }
         ensures open { self.new.phase ≡ phase.Open }
         ensures name { self.new.buffer.ghost_name ≡ self.old.buffer.ghost_name }
     {
@@ -63,8 +63,8 @@ impl<'a> Core<'a> {
     // The length last delivered, or 0. The buffer stays as it is.
     pub(crate) fn release(&mut self) -> usize
         requires { OutDraft self.old }
-        ensures answer { Released result ≡ (step self.old.counted (plain_of self.old) releaseStep).reply }
-        ensures follows { Follows releaseStep self.old self.new }
+        ensures answer { Released result ≡ (step self.old.counted (plain_of self.old) release_step).reply }
+        ensures follows { Follows release_step self.old self.new }
         ensures same { self.new.buffer.now ≡ self.old.buffer.now }
         ensures name { self.new.buffer.ghost_name ≡ self.old.buffer.ghost_name }
     {

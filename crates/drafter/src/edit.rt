@@ -1,7 +1,7 @@
 // The edits of an open draft.
 ghost use Rattle.std.specs.Prelude.{◌≡◌, ◌<◌, ◌≤◌, length, take};
 ghost use Rattle.wire.specs.Octets.{Octets};
-ghost use Rattle.plain.specs.Edits.Edit.{head as headEdit, add as addEdit, replace as replaceEdit, remove as removeEdit};
+ghost use Rattle.plain.specs.Edits.Edit.{head as head_edit, add as add_edit, replace as replace_edit, remove as remove_edit};
 ghost use Rattle.plain.specs.Steps.{headed};
 ghost use Rattle.plain.specs.Kept.{EditWidths};
 ghost use Rattle.drafter.specs.Spots.{spot_at};
@@ -42,7 +42,7 @@ impl<'a> Core<'a> {
 
     fn ask_add(&self, position: usize, code: u8, body: &[u8]) -> Result<(), Refusal>
         requires { Editable self.now }
-        ensures { result ≡ asking (addEdit position code body.now) self.now }
+        ensures { result ≡ asking (add_edit position code body.now) self.now }
     {
         if self.header == 0 {
             return Err(Refusal::NoHeader);
@@ -64,9 +64,9 @@ impl<'a> Core<'a> {
 impl<'a> Core<'a> {
     fn insert(&mut self, position: usize, code: u8, body: &[u8])
         requires draft { Editable self.old }
-        requires asked { Accepted (addEdit position code body.now) self.old }
+        requires asked { Accepted (add_edit position code body.now) self.old }
         requires octets { Octets body.now }
-        ensures leaves { Leaves (addEdit position code body.now) self.old self.new }
+        ensures leaves { Leaves (add_edit position code body.now) self.old self.new }
         ensures name { self.new.buffer.ghost_name ≡ self.old.buffer.ghost_name }
     {
         let spot = self.spot(position);
@@ -82,8 +82,8 @@ impl<'a> Core<'a> {
     pub(crate) fn add(&mut self, position: usize, code: u8, body: &[u8]) -> Result<(), Refusal>
         requires draft { Editable self.old }
         requires octets { Octets body.now }
-        ensures answer { result ≡ asking (addEdit position code body.now) self.old }
-        ensures leaves { Leaves (addEdit position code body.now) self.old self.new }
+        ensures answer { result ≡ asking (add_edit position code body.now) self.old }
+        ensures leaves { Leaves (add_edit position code body.now) self.old self.new }
         ensures name { self.new.buffer.ghost_name ≡ self.old.buffer.ghost_name }
     {
         self.ask_add(position, code, body)?;
@@ -95,7 +95,7 @@ impl<'a> Core<'a> {
 impl<'a> Core<'a> {
     fn ask_replace(&self, position: usize, code: u8, body: &[u8]) -> Result<(), Refusal>
         requires { Editable self.now }
-        ensures { result ≡ asking (replaceEdit position code body.now) self.now }
+        ensures { result ≡ asking (replace_edit position code body.now) self.now }
     {
         if self.header == 0 {
             return Err(Refusal::NoHeader);
@@ -113,9 +113,9 @@ impl<'a> Core<'a> {
 
     fn change(&mut self, position: usize, code: u8, body: &[u8])
         requires draft { Editable self.old }
-        requires asked { Accepted (replaceEdit position code body.now) self.old }
+        requires asked { Accepted (replace_edit position code body.now) self.old }
         requires octets { Octets body.now }
-        ensures leaves { Leaves (replaceEdit position code body.now) self.old self.new }
+        ensures leaves { Leaves (replace_edit position code body.now) self.old self.new }
         ensures name { self.new.buffer.ghost_name ≡ self.old.buffer.ghost_name }
     {
         let old = self.size(position);
@@ -131,8 +131,8 @@ impl<'a> Core<'a> {
     pub(crate) fn replace(&mut self, position: usize, code: u8, body: &[u8]) -> Result<(), Refusal>
         requires draft { Editable self.old }
         requires octets { Octets body.now }
-        ensures answer { result ≡ asking (replaceEdit position code body.now) self.old }
-        ensures leaves { Leaves (replaceEdit position code body.now) self.old self.new }
+        ensures answer { result ≡ asking (replace_edit position code body.now) self.old }
+        ensures leaves { Leaves (replace_edit position code body.now) self.old self.new }
         ensures name { self.new.buffer.ghost_name ≡ self.old.buffer.ghost_name }
     {
         self.ask_replace(position, code, body)?;
@@ -144,7 +144,7 @@ impl<'a> Core<'a> {
 impl<'a> Core<'a> {
     fn ask_remove(&self, position: usize) -> Result<(), Refusal>
         requires { Editable self.now }
-        ensures { result ≡ asking (removeEdit position) self.now }
+        ensures { result ≡ asking (remove_edit position) self.now }
     {
         if self.header == 0 {
             return Err(Refusal::NoHeader);
@@ -157,8 +157,8 @@ impl<'a> Core<'a> {
 
     fn delete(&mut self, position: usize)
         requires draft { Editable self.old }
-        requires asked { Accepted (removeEdit position) self.old }
-        ensures leaves { Leaves (removeEdit position) self.old self.new }
+        requires asked { Accepted (remove_edit position) self.old }
+        ensures leaves { Leaves (remove_edit position) self.old self.new }
         ensures name { self.new.buffer.ghost_name ≡ self.old.buffer.ghost_name }
     {
         let old = self.size(position);
@@ -174,8 +174,8 @@ impl<'a> Core<'a> {
     // The payload at a position goes; the later ones move up.
     pub(crate) fn remove(&mut self, position: usize) -> Result<(), Refusal>
         requires { Editable self.old }
-        ensures answer { result ≡ asking (removeEdit position) self.old }
-        ensures leaves { Leaves (removeEdit position) self.old self.new }
+        ensures answer { result ≡ asking (remove_edit position) self.old }
+        ensures leaves { Leaves (remove_edit position) self.old self.new }
         ensures name { self.new.buffer.ghost_name ≡ self.old.buffer.ghost_name }
     {
         self.ask_remove(position)?;
@@ -187,7 +187,7 @@ impl<'a> Core<'a> {
 impl<'a> Core<'a> {
     fn ask_head(&self, head: &Head<'_>) -> Result<(), Refusal>
         requires { Editable self.now }
-        ensures { result ≡ asking (headEdit (headed head.now)) self.now }
+        ensures { result ≡ asking (head_edit (headed head.now)) self.now }
     {
         ask_map(head.cs, head.map_type, head.map_info)?;
         let room = self.counted - (self.end - self.header);
@@ -207,9 +207,9 @@ impl<'a> Core<'a> {
 
     fn set_header(&mut self, head: &Head<'_>)
         requires draft { Editable self.old }
-        requires asked { Accepted (headEdit (headed head.now)) self.old }
-        requires widths { EditWidths (headEdit (headed head.now)) }
-        ensures leaves { Leaves (headEdit (headed head.now)) self.old self.new }
+        requires asked { Accepted (head_edit (headed head.now)) self.old }
+        requires widths { EditWidths (head_edit (headed head.now)) }
+        ensures leaves { Leaves (head_edit (headed head.now)) self.old self.new }
         ensures name { self.new.buffer.ghost_name ≡ self.old.buffer.ghost_name }
     {
         let next = self.first();
@@ -224,9 +224,9 @@ impl<'a> Core<'a> {
     // Another header; the payloads stay.
     pub(crate) fn head(&mut self, head: &Head<'_>) -> Result<(), Refusal>
         requires draft { Editable self.old }
-        requires widths { EditWidths (headEdit (headed head.now)) }
-        ensures answer { result ≡ asking (headEdit (headed head.now)) self.old }
-        ensures leaves { Leaves (headEdit (headed head.now)) self.old self.new }
+        requires widths { EditWidths (head_edit (headed head.now)) }
+        ensures answer { result ≡ asking (head_edit (headed head.now)) self.old }
+        ensures leaves { Leaves (head_edit (headed head.now)) self.old self.new }
         ensures name { self.new.buffer.ghost_name ≡ self.old.buffer.ghost_name }
     {
         self.ask_head(head)?;

@@ -1,4 +1,6 @@
 // Drafts of messages in a lent buffer.
+#![tactic(auto)]
+
 mod buffer;
 mod core;
 mod delivery;

@@ -1,9 +1,9 @@
 // An open draft.
 ghost use Rattle.std.specs.Prelude.{◌≡◌};
 ghost use Rattle.plain.specs.Drafts.{begin as begun, image, encoded};
-ghost use Rattle.plain.specs.Edits.Edit.{head as headEdit, add as addEdit, replace as replaceEdit, remove as removeEdit};
+ghost use Rattle.plain.specs.Edits.Edit.{head as head_edit, add as add_edit, replace as replace_edit, remove as remove_edit};
 ghost use Rattle.plain.specs.Steps.{headed};
-ghost use Rattle.plain.specs.Steps.Step.{edit, close as closeStep};
+ghost use Rattle.plain.specs.Steps.Step.{edit, close as close_step};
 ghost use Rattle.plain.specs.declared.calls.Reply.TheVariants.{Done};
 ghost use Rattle.plain.specs.Kept.{EditWidths};
 ghost use Rattle.plain.specs.Turns.{settled, Turns};
@@ -51,7 +51,7 @@ pub fn begin<'a>(buffer: &'a mut [u8]) -> Open<'a>
 
 // A clause does not know of fields that are not read that they are of their widths. This reads them and does nothing.
 pub(crate) fn widths(head: &Head<'_>)
-    ensures { EditWidths (headEdit (headed head.now)) }
+    ensures { EditWidths (head_edit (headed head.now)) }
 {
     let _byte3 = head.byte3;
     let _csb = head.csb;
@@ -61,7 +61,7 @@ pub(crate) fn widths(head: &Head<'_>)
 impl<'a> Open<'a> {
     // Inserts a payload at a position; the later ones follow it.
     pub fn add(&mut self, position: usize, code: u8, body: &[u8]) -> Result<(), Refusal>
-        ensures turns { Turns (edit (addEdit position code body.now)) (plain self.old) (plain self.new) (bytes self.old) (bytes self.new) (settled result) }
+        ensures turns { Turns (edit (add_edit position code body.now)) (plain self.old) (plain self.new) (bytes self.old) (bytes self.new) (settled result) }
         ensures lent { lent self.new ≡ lent self.old }
     {
         octets(body);
@@ -70,7 +70,7 @@ impl<'a> Open<'a> {
 
     // Changes the payload at a position.
     pub fn replace(&mut self, position: usize, code: u8, body: &[u8]) -> Result<(), Refusal>
-        ensures turns { Turns (edit (replaceEdit position code body.now)) (plain self.old) (plain self.new) (bytes self.old) (bytes self.new) (settled result) }
+        ensures turns { Turns (edit (replace_edit position code body.now)) (plain self.old) (plain self.new) (bytes self.old) (bytes self.new) (settled result) }
         ensures lent { lent self.new ≡ lent self.old }
     {
         octets(body);
@@ -79,7 +79,7 @@ impl<'a> Open<'a> {
 
     // Drops the payload at a position.
     pub fn remove(&mut self, position: usize) -> Result<(), Refusal>
-        ensures turns { Turns (edit (removeEdit position)) (plain self.old) (plain self.new) (bytes self.old) (bytes self.new) (settled result) }
+        ensures turns { Turns (edit (remove_edit position)) (plain self.old) (plain self.new) (bytes self.old) (bytes self.new) (settled result) }
         ensures lent { lent self.new ≡ lent self.old }
     {
         self.core.remove(position)
@@ -87,7 +87,7 @@ impl<'a> Open<'a> {
 
     // Sets the header and keeps the payloads.
     pub fn head(&mut self, head: &Head<'_>) -> Result<(), Refusal>
-        ensures turns { Turns (edit (headEdit (headed head.now))) (plain self.old) (plain self.new) (bytes self.old) (bytes self.new) (settled result) }
+        ensures turns { Turns (edit (head_edit (headed head.now))) (plain self.old) (plain self.new) (bytes self.old) (bytes self.new) (settled result) }
         ensures lent { lent self.new ≡ lent self.old }
     {
         widths(head);
@@ -103,7 +103,7 @@ impl<'a> Open<'a> {
 
     // Goes out, for a signature of `size` bytes. It never refuses: what is wrong is carried, and sign tells it.
     pub fn close<P: Profile>(self, profile: &P, sign_type: u8, size: usize) -> Out<'a>
-        ensures turns { Turns (closeStep (tables profile.now) sign_type size) (plain self.entry) (plain_out result) (bytes self.entry) (bytes_out result) Done }
+        ensures turns { Turns (close_step (P.tables profile.now) sign_type size) (plain self.entry) (plain_out result) (bytes self.entry) (bytes_out result) Done }
         ensures lent { lent_out result ≡ lent self.entry }
     {
         let Open { core } = self;

@@ -1,8 +1,8 @@
 // A draft that is out.
 ghost use Rattle.std.specs.Prelude.{◌≡◌};
-ghost use Rattle.plain.specs.Drafts.{counted as countedOf, encoded, spanned};
+ghost use Rattle.plain.specs.Drafts.{counted as counted_of, encoded, spanned};
 ghost use Rattle.plain.specs.Steps.{step};
-ghost use Rattle.plain.specs.Steps.Step.{sign as signStep, withdraw as withdrawStep, release as releaseStep};
+ghost use Rattle.plain.specs.Steps.Step.{sign as sign_step, withdraw as withdraw_step, release as release_step};
 ghost use Rattle.plain.specs.declared.calls.Reply.TheVariants.{Done, Released};
 ghost use Rattle.plain.specs.Turns.{delivering, Turns};
 ghost use Rattle.drafter.specs.Views.{plain, bytes, lent, plain_out, bytes_out, lent_out};
@@ -29,7 +29,7 @@ impl<'a> Out<'a> {
     // Writes the signature and delivers the message: answers its length. Refuses with the carried fault, or for a signature of
     // another length than close was given. It may be repeated.
     pub fn sign(&mut self, signature: &[u8]) -> Result<usize, Refusal>
-        ensures turns { Turns (signStep signature.now) (plain_out self.old) (plain_out self.new) (bytes_out self.old) (bytes_out self.new) (delivering result) }
+        ensures turns { Turns (sign_step signature.now) (plain_out self.old) (plain_out self.new) (bytes_out self.old) (bytes_out self.new) (delivering result) }
         ensures lent { lent_out self.new ≡ lent_out self.old }
     {
         octets(signature);
@@ -38,7 +38,7 @@ impl<'a> Out<'a> {
 
     // Takes SIGN off, if it stands, and gives the open draft back.
     pub fn withdraw(self) -> Open<'a>
-        ensures turns { Turns withdrawStep (plain_out self.entry) (plain result) (bytes_out self.entry) (bytes result) Done }
+        ensures turns { Turns withdraw_step (plain_out self.entry) (plain result) (bytes_out self.entry) (bytes result) Done }
         ensures lent { lent result ≡ lent_out self.entry }
     {
         let Out { core } = self;
@@ -49,7 +49,7 @@ impl<'a> Out<'a> {
 
     // Ends the draft: answers the length last delivered since close, or 0, and gives the buffer back as it stands.
     pub fn release(self) -> (usize, &'a mut [u8])
-        ensures answer { Released result.0 ≡ (step (countedOf (bytes_out self.entry)) (plain_out self.entry) releaseStep).reply }
+        ensures answer { Released result.0 ≡ (step (counted_of (bytes_out self.entry)) (plain_out self.entry) release_step).reply }
         ensures buffer { result.1.now ≡ bytes_out self.entry }
         ensures lent { result.1.ghost_name ≡ lent_out self.entry }
     {

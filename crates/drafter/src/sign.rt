@@ -75,7 +75,7 @@ impl<'a> Core<'a> {
     // What the profile refuses of the message with SIGN.
     fn admit_by<P: Profile>(&self, profile: &P) -> Result<(), Refusal>
         requires { Signed self.now }
-        ensures { AdmitsBy (tables profile.now) self.now result }
+        ensures { AdmitsBy (P.tables profile.now) self.now result }
     {
         let full = self.full;
         let message = &self.buffer[0..full];
@@ -95,7 +95,7 @@ impl<'a> Core<'a> {
         size: usize,
     ) -> Result<(), Refusal>
         requires { Editable self.old }
-        ensures answer { result ≡ closing self.old.counted (plain_of self.old).held (tables profile.now) sign_type size }
+        ensures answer { result ≡ closing self.old.counted (plain_of self.old).held (P.tables profile.now) sign_type size }
         ensures closes { Closes sign_type size result self.old self.new }
         ensures name { self.new.buffer.ghost_name ≡ self.old.buffer.ghost_name }
     {
@@ -113,7 +113,7 @@ impl<'a> Core<'a> {
     // Closes the draft under a profile, for a signature of `size` bytes. A fault is carried, for sign to tell.
     pub(crate) fn close<P: Profile>(&mut self, profile: &P, sign_type: u8, size: usize)
         requires { Editable self.old }
-        ensures at { At (closed sign_type size (closing self.old.counted (plain_of self.old).held (tables profile.now) sign_type size)) self.old self.new }
+        ensures at { At (closed sign_type size (closing self.old.counted (plain_of self.old).held (P.tables profile.now) sign_type size)) self.old self.new }
         ensures name { self.new.buffer.ghost_name ≡ self.old.buffer.ghost_name }
     {
         if let Err(fault) = self.try_close(profile, sign_type, size) {

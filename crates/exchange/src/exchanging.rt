@@ -32,7 +32,7 @@ pub fn exchange<P: Profile, S: Profile, V: Verifier>(
     archive: &mut [u8],
 ) -> Exchanged
     ensures promise { Promise }
-    ensures exchanges { Exchanges (steps_of P.Profile.tables (take (length replies.old) calls.now)) (S.Profile.tables station.now) (passing verifier.now) buffer.old buffer.new replies.old replies.new rows.old rows.new archive.old archive.new result }
+    ensures exchanges { Exchanges (steps_of P.Profile.tables (take (length replies.old) calls.now)) (S.Profile.tables station.now) (V.passing verifier.now) buffer.old buffer.new replies.old replies.new rows.old rows.new archive.old archive.new result }
 {
     let length = run(buffer, calls, replies);
     let message = &buffer[0..length];

@@ -34,9 +34,9 @@ fn draft_again<'a, P: Profile>(
     profile: &P,
     buffer: &'a mut [u8],
 ) -> (usize, &'a mut [u8])
-    requires told { Tells (tables profile.now) message.now walked.now rows.now }
+    requires told { Tells (P.tables profile.now) message.now walked.now rows.now }
     requires room { length message.now ≤ length buffer.old }
-    ensures drafted { Drafts (tables profile.now) message.now buffer.old result.1.now result.0 }
+    ensures drafted { Drafts (P.tables profile.now) message.now buffer.old result.1.now result.0 }
     ensures lent { result.1.ghost_name ≡ buffer.entry.ghost_name }
 {
     let last = walked.count - 1;
@@ -61,9 +61,9 @@ fn drafted<P: Profile>(
     profile: &P,
     buffer: &mut [u8],
 ) -> usize
-    requires told { Tells (tables profile.now) message.now walked.now rows.now }
+    requires told { Tells (P.tables profile.now) message.now walked.now rows.now }
     requires room { length message.now ≤ length buffer.old }
-    ensures { Drafts (tables profile.now) message.now buffer.old buffer.new result }
+    ensures { Drafts (P.tables profile.now) message.now buffer.old buffer.new result }
 {
     let (length, _buffer) = draft_again(message, rows, walked, profile, buffer);
     length
@@ -77,7 +77,7 @@ pub fn redraft<P: Profile, V: Verifier>(
     verifier: &V,
     buffer: &mut [u8],
 ) -> Result<usize, Refusal>
-    ensures { Redrafts (tables profile.now) (passing verifier.now) message.now buffer.old buffer.new result }
+    ensures { Redrafts (P.tables profile.now) (V.passing verifier.now) message.now buffer.old buffer.new result }
 {
     octets(message);
     let mut rows = [Row::BLANK; 24];

@@ -1,4 +1,6 @@
 // Lists the payloads of the message on standard input, or tells why it is refused.
+#![tactic(auto)]
+
 use std::io;
 use std::io::Read;
 use walk::walk;

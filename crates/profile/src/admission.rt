@@ -14,7 +14,7 @@ const WRAPPED: u8 = 9;
 const LAST_SLOT: u8 = 12;
 
 fn ask<P: Profile>(profile: &P, field: u8, place: usize, value: u8) -> Result<(), Refusal>
-    ensures { result ≡ check ((tables profile.now).takes field value) (FieldNotTaken place field) (Ok tt) }
+    ensures { result ≡ check ((P.tables profile.now).takes field value) (FieldNotTaken place field) (Ok tt) }
 {
     if profile.takes(field, value) {
         Ok(())
@@ -25,7 +25,7 @@ fn ask<P: Profile>(profile: &P, field: u8, place: usize, value: u8) -> Result<()
 
 // V, PRF func, purpose and #CS.
 fn header<P: Profile>(profile: &P, message: &[u8]) -> Result<(), Refusal>
-    ensures { result ≡ taking (tables profile.now) (header_in message.now) }
+    ensures { result ≡ taking (P.tables profile.now) (header_in message.now) }
 {
     let flags = byte_at(message, 3);
     ask(profile, 1, 3, flags / 128)?;
@@ -36,7 +36,7 @@ fn header<P: Profile>(profile: &P, message: &[u8]) -> Result<(), Refusal>
 
 // The fields of one payload.
 fn payload<P: Profile>(profile: &P, message: &[u8], row: &Row) -> Result<(), Refusal>
-    ensures { result ≡ taking (tables profile.now) (fields_in message.now row.now) }
+    ensures { result ≡ taking (P.tables profile.now) (fields_in message.now row.now) }
 {
     let start = row.start as usize;
     match Kind::of(row.code) {
@@ -57,7 +57,7 @@ fn sakke<P: Profile>(
     params: usize,
     scheme: usize,
 ) -> Result<(), Refusal>
-    ensures { result ≡ taking (tables profile.now) (sakke_in message.now params scheme) }
+    ensures { result ≡ taking (P.tables profile.now) (sakke_in message.now params scheme) }
 {
     ask(profile, 8, params, byte_at(message, params))?;
     ask(profile, 9, scheme, byte_at(message, scheme))
@@ -84,7 +84,7 @@ fn fit<P: Profile>(
     earlier: &[Row],
     row: &Row,
 ) -> Result<u8, Refusal>
-    ensures { result ≡ fitted (tables profile.now) message.now last earlier.now row.now }
+    ensures { result ≡ fitted (P.tables profile.now) message.now last earlier.now row.now }
 {
     payload(profile, message, row)?;
     let start = row.start as usize;
@@ -100,7 +100,7 @@ fn fit<P: Profile>(
 }
 
 fn payloads<P: Profile>(profile: &P, message: &[u8], rows: &[Row]) -> Result<(), Refusal>
-    ensures { result ≡ fitting (tables profile.now) message.now 0 [] rows.now }
+    ensures { result ≡ fitting (P.tables profile.now) message.now 0 [] rows.now }
 {
     let mut last = 0;
     for i in 0..rows.len() {
@@ -111,7 +111,7 @@ fn payloads<P: Profile>(profile: &P, message: &[u8], rows: &[Row]) -> Result<(),
 
 // The least count of a slot.
 fn suffice<P: Profile>(profile: &P, end: usize, rows: &[Row], slot: u8) -> Result<(), Refusal>
-    ensures { result ≡ sufficient (tables profile.now) end rows.now slot }
+    ensures { result ≡ sufficient (P.tables profile.now) end rows.now slot }
 {
     if tally(rows, slot) < profile.bounds(slot).least as usize {
         return Err(Refusal::BelowLeast { length: end, slot });
@@ -120,7 +120,7 @@ fn suffice<P: Profile>(profile: &P, end: usize, rows: &[Row], slot: u8) -> Resul
 }
 
 fn least<P: Profile>(profile: &P, end: usize, rows: &[Row]) -> Result<(), Refusal>
-    ensures { result ≡ sufficing (tables profile.now) end rows.now slots }
+    ensures { result ≡ sufficing (P.tables profile.now) end rows.now slots }
 {
     for slot in 1..LAST_SLOT + 1 {
         suffice(profile, end, rows, slot)?;
@@ -130,7 +130,7 @@ fn least<P: Profile>(profile: &P, end: usize, rows: &[Row]) -> Result<(), Refusa
 
 // Whether a profile admits a message, by its bytes and the rows that mark off its payloads.
 pub fn admit<P: Profile>(profile: &P, message: &[u8], rows: &[Row]) -> Result<(), Refusal>
-    ensures { result ≡ admitting (tables profile.now) message.now rows.now }
+    ensures { result ≡ admitting (P.tables profile.now) message.now rows.now }
 {
     header(profile, message)?;
     payloads(profile, message, rows)?;

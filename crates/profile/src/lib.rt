@@ -1,4 +1,6 @@
 // Profiles: what a station takes in a message's fields, and how often and in which order it takes payloads.
+#![tactic(auto)]
+
 mod admission;
 mod choice;
 mod fixed;

@@ -1,4 +1,6 @@
 // Tests of profiles, sheets, verifiers and read.
+#![tactic(auto)]
+
 #[cfg(test)]
 mod build;
 #[cfg(test)]

@@ -16,7 +16,7 @@ pub(crate) fn judge<P: Profile, V: Verifier>(
 ) -> Result<(), Refusal>
     requires within { Within (length message.now) rows.now }
     requires span { span ≤ length message.now }
-    ensures { result ≡ judging (tables profile.now) (passing verifier.now) message.now rows.now span }
+    ensures { result ≡ judging (P.tables profile.now) (V.passing verifier.now) message.now rows.now span }
 {
     admit(profile, message, rows)?;
     verify(verifier, message, rows, span)

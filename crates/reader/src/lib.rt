@@ -1,4 +1,6 @@
 // Reads a message under a profile and a verifier.
+#![tactic(auto)]
+
 mod judgement;
 mod verification;
 
@@ -19,7 +21,7 @@ pub fn read<P: Profile, V: Verifier>(
     profile: &P,
     verifier: &V,
 ) -> Result<Walked, Refusal>
-    ensures { Reads (tables profile.now) (passing verifier.now) message.now rows.old result rows.new }
+    ensures { Reads (P.tables profile.now) (V.passing verifier.now) message.now rows.old result rows.new }
 {
     octets(message);
     tell(message, rows, profile, verifier)
@@ -32,7 +34,7 @@ fn tell<P: Profile, V: Verifier>(
     verifier: &V,
 ) -> Result<Walked, Refusal>
     requires { Octets message.now }
-    ensures { Reads (tables profile.now) (passing verifier.now) message.now rows.old result rows.new }
+    ensures { Reads (P.tables profile.now) (V.passing verifier.now) message.now rows.old result rows.new }
 {
     if rows.len() < 24 {
         return Err(Refusal::FewRows);

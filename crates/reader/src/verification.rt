@@ -32,7 +32,7 @@ pub(crate) fn verify<V: Verifier>(
 ) -> Result<(), Refusal>
     requires within { Within (length message.now) rows.now }
     requires span { span ≤ length message.now }
-    ensures { result ≡ verifying (passing verifier.now) message.now rows.now span }
+    ensures { result ≡ verifying (V.passing verifier.now) message.now rows.now span }
 {
     let signer = signer(message, rows);
     let (spanned, signature) = message.split_at(span);

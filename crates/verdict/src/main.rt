@@ -1,4 +1,6 @@
 // Tells how a station reads recorded messages, under a profile or a sheet, a key and a trust list.
+#![tactic(auto)]
+
 mod arguments;
 mod trust;
 

@@ -1,4 +1,6 @@
 // Verifiers: who passes a signature over a span, in the name of a signer.
+#![tactic(auto)]
+
 mod compare;
 mod interface;
 mod key_tag;

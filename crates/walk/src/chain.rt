@@ -7,7 +7,7 @@ ghost use Rattle.wire.specs.Extents.{body_at};
 ghost use Rattle.wire.specs.Walking.{kind_at};
 ghost use Rattle.walk.specs.Scans.{scanning, links_of, Holds, Inside};
 
-use crate::layout::{body_length, byte};
+use crate::layout::{body, byte};
 use wire::{Kind, Refusal, Row};
 
 // How many payloads a message may have, SIGN among them.
@@ -62,12 +62,12 @@ fn payload(message: &[u8], kind: Kind, at: usize) -> Result<usize, Refusal>
     ensures within { IfOk result (λ n. (2 ≤ n) × (at + n ≤ length message.now)) }
 {
     if kind == Kind::Sign {
-        return body_length(kind, at, &message[at..]);
+        return body(kind, at, &message[at..]);
     }
     if at == message.len() {
         return Err(Refusal::PayloadCut(at));
     }
-    let n = body_length(kind, at, &message[at + 1..])?;
+    let n = body(kind, at, &message[at + 1..])?;
     Ok(1 + n)
 }
 

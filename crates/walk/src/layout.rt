@@ -27,7 +27,7 @@ pub(crate) fn pair(bytes: &[u8], at: usize) -> usize
 }
 
 // How long a body is by its own length field, read where the body begins.
-pub fn extent_of(kind: Kind, rest: &[u8]) -> usize
+pub fn reach(kind: Kind, rest: &[u8]) -> usize
     ensures is { result ≡ extent kind rest.now }
     ensures small { result < 65540 }
 {
@@ -64,7 +64,7 @@ fn are_items(params: &[u8]) -> bool
 fn is_one_sakke(content: &[u8]) -> bool
     ensures { result ≡ one_sakke content.now }
 {
-    content.len() > 0 && 1 + extent_of(Kind::Sakke, &content[1..]) == content.len()
+    content.len() > 0 && 1 + reach(Kind::Sakke, &content[1..]) == content.len()
 }
 
 // The rule inside a body that is all there.
@@ -83,10 +83,10 @@ fn keeps(kind: Kind, body: &[u8]) -> bool
 }
 
 // The length of the body at the front, if it is all there and keeps its rule. It belongs to the payload at `at`.
-pub fn body_length(kind: Kind, at: usize, rest: &[u8]) -> Result<usize, Refusal>
+pub fn body(kind: Kind, at: usize, rest: &[u8]) -> Result<usize, Refusal>
     ensures { result ≡ map_ok length (body_at kind at rest.now) }
 {
-    let n = extent_of(kind, rest);
+    let n = reach(kind, rest);
     if n > rest.len() {
         return Err(Refusal::PayloadCut(at));
     }

@@ -1,4 +1,6 @@
 // Walks a message and tells its payloads, hands out their bytes, and reads a time stamp. Drafts measure their parts by the same layouts.
+#![tactic(auto)]
+
 mod chain;
 mod clock;
 mod header;
@@ -12,7 +14,7 @@ ghost use Rattle.wire.specs.Octets.{Octets};
 ghost use Rattle.walk.specs.Walks.{Walks};
 
 pub use clock::time;
-pub use layout::{body_length, extent_of};
+pub use layout::{body, reach};
 pub use part::{Part, lookup};
 use scan::scan;
 pub use session::{info_length, map_fits};

@@ -3,7 +3,7 @@ ghost use Rattle.std.specs.Prelude.{◌≡◌, ◌+◌, ◌<◌, ◌≤◌, leng
 ghost use Rattle.wire.specs.Answers.{map_ok};
 ghost use Rattle.wire.specs.Extents.{session_extent, session_inside, session_at};
 ghost use Rattle.wire.specs.Walking.{map_fits};
-ghost use Rattle.wire.specs.Walking.{sessions as sessionsOf};
+ghost use Rattle.wire.specs.Walking.{sessions as sessions_of};
 
 use crate::layout::{byte, pair};
 use wire::Refusal;
@@ -56,7 +56,7 @@ fn session(at: usize, rest: &[u8]) -> Result<usize, Refusal>
 // Where the sessions end, of which the first begins at `from`.
 pub(crate) fn sessions(count: u8, from: usize, bytes: &[u8]) -> Result<usize, Refusal>
     requires { from ≤ length bytes.now }
-    ensures answer { result ≡ map_ok (λ info. from + length info) (sessionsOf count from (drop from bytes.now)) }
+    ensures answer { result ≡ map_ok (λ info. from + length info) (sessions_of count from (drop from bytes.now)) }
     ensures within { IfOk result (λ n. (from ≤ n) × (n ≤ length bytes.now)) }
 {
     let mut at = from;
@@ -69,7 +69,7 @@ pub(crate) fn sessions(count: u8, from: usize, bytes: &[u8]) -> Result<usize, Re
 
 // How long the sessions at the front of map info are. Places count from its start.
 pub fn info_length(count: u8, info: &[u8]) -> Result<usize, Refusal>
-    ensures { result ≡ map_ok length (sessionsOf count 0 info.now) }
+    ensures { result ≡ map_ok length (sessions_of count 0 info.now) }
 {
     sessions(count, 0, info)
 }

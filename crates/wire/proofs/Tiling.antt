@@ -6,7 +6,7 @@ use Rattle.std.proofs.ByRecursion.{All-weaker, All-append}
 use Rattle.wire.specs.declared.kind.Kind.TheVariants.{Sign}
 use Rattle.wire.specs.Messages.{Header, Payload, Message, first, header_bytes, payloads_bytes, front, sign_length, sign_body, encode, span, pieces}
 use Rattle.wire.specs.Layouts.{Body}
-use Rattle.wire.specs.Layouts.Body.{sign as sign-drawn}
+use Rattle.wire.specs.Layouts.Body.{sign as sign_drawn}
 use Rattle.wire.specs.Lawful.{Lawful, LawfulPayload}
 use Rattle.wire.specs.Rows.{size, sizes, rows_from, rows, header_length, Tile, bytes_in, MarksOff}
 
@@ -93,4 +93,4 @@ Drawn p = Body p.kind p.body
 pub pieces_drawn : (m : Message) → Lawful m → All Drawn (pieces m)
 pieces_drawn m l =
     All-append Drawn m.payloads _ (All-weaker LawfulPayload Drawn (λ p h. h.body) m.payloads l.payloads)
-    (sign-drawn m.sign_type m.signature l.sign.least l.sign.most, tt)
+    (sign_drawn m.sign_type m.signature l.sign.least l.sign.most, tt)

@@ -1,4 +1,6 @@
 // The types that readers and drafters share. What they mean stands in specs/.
+#![tactic(auto)]
+
 mod bytes;
 mod kind;
 mod refusal;

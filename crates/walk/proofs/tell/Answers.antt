@@ -8,14 +8,14 @@ returns-then-rows-lt24 c =
     let t = few_rows c.args.message.now c.args.rows.now (omega arith) in
     walks c.args.message.now c.args.rows.now _ _ c.requires t.0 t.1
 
-pub returns-in-err-walked : goal.returns-in-err-walked
-returns-in-err-walked c =
-    let p = err_from_is_err_and c.from-residual.result c.from-residual.ensures.1 in
-    let t = scan_refused c.args.message.now c.args.rows.now (omega arith) _ c.in-err-walked.ensures.answer in
+pub returns-in_err-walked : goal.returns-in_err-walked
+returns-in_err-walked c =
+    let p = err_from_is_err_and c.from_residual.result c.from_residual.ensures.1 in
+    let t = scan_refused c.args.message.now c.args.rows.now (omega arith) _ c.in_err-walked.ensures.answer in
     walks c.args.message.now c.args.rows.now _ _ c.requires (p.1 ∙ ap Err p.2 ∙ t.0) t.1
 
 pub returns : goal.returns
 returns c =
-    let t = scan_accepted c.args.message.now c.args.rows.now (omega arith) c.in-ok-walked.walked _ _
-    c.in-ok-walked.ensures.answer c.scan.ensures.rows c.fill.ensures in
+    let t = scan_accepted c.args.message.now c.args.rows.now (omega arith) c.in_ok-walked.walked _ _
+    c.in_ok-walked.ensures.answer c.scan.ensures.rows c.fill.ensures in
     walks c.args.message.now c.args.rows.now _ _ c.requires t.0 t.1

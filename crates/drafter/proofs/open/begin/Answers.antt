@@ -5,8 +5,8 @@ use Rattle.drafter.proofs.Showing.{plain_is}
 use Rattle.drafter.proofs.Calling.{begun_shown}
 use Rattle.drafter.proofs.open.begin.Goals as goal
 
-pub invariant-of-result : goal.invariant-of-result
-invariant-of-result c = (begun_shown c.start.result c.start.ensures.shows, (ap is_open c.start.ensures.shows.phase, tt))
+pub invariant_of-result : goal.invariant_of-result
+invariant_of-result c = (begun_shown c.start.result c.start.ensures.shows, (ap is_open c.start.ensures.shows.phase, tt))
 
 pub returns : goal.returns
 returns c = record { draft = plain_is begin c.start.result c.start.ensures.shows; buffer = c.start.ensures.buffer; lent = c.start.ensures.name }

@@ -7,8 +7,8 @@ use Rattle.exchange.proofs.Listed.{measures, head_at, add_at, close_at, sign_at}
 use Rattle.exchange.proofs.Redrafted.{redrawn_first, redrawn_next, redrawn_drafts}
 use Rattle.exchange.proofs.redrafting.draft_again.Goals as goal
 
-pub head-of-requires : goal.head-of-requires
-head-of-requires g c = let k = measures c.requires.told in record { least = k.header_least; inside = k.header_most }
+pub head_of-requires : goal.head_of-requires
+head_of-requires g c = let k = measures c.requires.told in record { least = k.header_least; inside = k.header_most }
 
 pub loop-i-init : goal.loop-i-init
 loop-i-init g c =
@@ -17,7 +17,7 @@ loop-i-init g c =
     let h = c.head.new.self in (
       redrawn_first T c.args.message.now c.args.walked.now c.args.rows.now c.requires.told c.args.buffer.now (bytes o) (bytes h) (plain o) (plain h) _ _
           c.begin-open.ensures.buffer c.begin-open.ensures.draft
-          (λ m l e d. head_at T c.args.message.now c.args.walked.now c.args.rows.now c.requires.told m l e (headed c.head-of.result) d c.head-of.ensures) c.head.ensures.turns,
+          (λ m l e d. head_at T c.args.message.now c.args.walked.now c.args.rows.now c.requires.told m l e (headed c.head_of.result) d c.head_of.ensures) c.head.ensures.turns,
       refl,
     )
 

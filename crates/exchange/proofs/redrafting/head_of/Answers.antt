@@ -6,5 +6,5 @@ use Rattle.exchange.proofs.redrafting.head_of.Goals as goal
 pub returns : goal.returns
 returns c m l e n =
     let bytes = c.args.message.now in
-    let v : c.from-be-bytes.result ≡ value_at 4 4 bytes = omega (arith, c.from-be-bytes.ensures) in
-    header_told m bytes l e (c.args.header - 10) c.from-be-bytes.result (omega arith) v
+    let v : c.from_be_bytes.result ≡ value_at 4 4 bytes = omega (arith, c.from_be_bytes.ensures) in
+    header_told m bytes l e (c.args.header - 10) c.from_be_bytes.result (omega arith) v

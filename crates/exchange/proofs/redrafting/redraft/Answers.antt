@@ -8,7 +8,7 @@ returns-then-buffer-message g c =
     let T = g.P.Profile.tables c.args.profile.now in
     let V = g.V.Verifier.passing c.args.verifier.now in
     let message = c.args.message.now in
-    let o = c.read.ensures.only c.in-ok-walked.walked c.in-ok-walked.was in
+    let o = c.read.ensures.only c.in_ok-walked.walked c.in_ok-walked.was in
     redrafts_short T V message c.args.buffer.now o.0 (read_good T V message o.0 o.1 o.2.is) (omega arith)
 
 pub returns : goal.returns
@@ -16,5 +16,5 @@ returns g c =
     let T = g.P.Profile.tables c.args.profile.now in
     let V = g.V.Verifier.passing c.args.verifier.now in
     let message = c.args.message.now in
-    let o = c.read.ensures.only c.in-ok-walked.walked c.in-ok-walked.was in
+    let o = c.read.ensures.only c.in_ok-walked.walked c.in_ok-walked.was in
     redrafts_done T V message c.args.buffer.now o.0 (read_good T V message o.0 o.1 o.2.is) c.drafted.new.buffer c.drafted.result c.octets.ensures (omega arith) c.drafted.ensures

@@ -6,6 +6,6 @@ use Rattle.profile.proofs.sheet.has_names.Goals as goal
 
 pub returns : goal.returns
 returns c = record {
-  is = same_from_decides _ _ (slice_eq-Decides Decides-eqb _ _ _ c.starts-with.ensures.value) (bytes_eq-Decides names (take 21 c.args.text.now));
-  long = c.starts-with.ensures.bound;
+  is = same_from_decides _ _ (slice_eq-Decides Decides-eqb _ _ _ c.starts_with.ensures.value) (bytes_eq-Decides names (take 21 c.args.text.now));
+  long = c.starts_with.ensures.bound;
 }

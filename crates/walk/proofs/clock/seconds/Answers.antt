@@ -7,5 +7,5 @@ use Rattle.walk.proofs.clock.seconds.Goals as goal
 pub returns : goal.returns
 returns c =
     let p = c.args.payload.now in
-    let v : value_at 8 2 p ≡ c.from-be-bytes.result = omega (arith, c.from-be-bytes.ensures) in
+    let v : value_at 8 2 p ≡ c.from_be_bytes.result = omega (arith, c.from_be_bytes.ensures) in
     subst (λ x. Times p (Ok x)) v (times p (omega arith) (omega arith) c.requires)

@@ -7,4 +7,4 @@ use Rattle.walk.proofs.layout.is_one_sakke.Goals as goal
 pub returns-then-content-gt0 : goal.returns-then-content-gt0
 returns-then-content-gt0 c =
     let b = c.args.content.now in
-    ap (λ n. eqb (1 + n) (length b)) (c.extent-of.ensures.is ∙ ap (extent Sakke) (take_rest b 1))
+    ap (λ n. eqb (1 + n) (length b)) (c.reach.ensures.is ∙ ap (extent Sakke) (take_rest b 1))

@@ -6,5 +6,5 @@ use Rattle.walk.proofs.session.sessions.Given as goal
 abbrev pub invariant-loop-i : goal.invariant-loop-i
 invariant-loop-i l =
     (l.from ≤ l.at) × (l.at ≤ length l.bytes)
-    × (map_ok (λ info. l.at + length info) (sessions (l.count - l.-i) l.at (drop l.at l.bytes))
+    × (map_ok (λ info. l.at + length info) (sessions (l.count - l._i) l.at (drop l.at l.bytes))
     ≡ map_ok (λ info. l.from + length info) (sessions l.count l.from (drop l.from l.bytes)))

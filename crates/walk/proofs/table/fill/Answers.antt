@@ -9,7 +9,7 @@ returns c =
     let n = c.args.count in
     let z : n - 0 ≡ n = omega arith in
     let t = c.args.table.now in
-    let front : c.copy-from-slice.new.self ≡ take n t = c.copy-from-slice.ensures.after ∙ ap (λ x. take x t) z in
+    let front : c.copy_from_slice.new.self ≡ take n t = c.copy_from_slice.ensures.after ∙ ap (λ x. take x t) z in
     let long : length (take n t) ≡ n = length-take-le n t (omega arith) in
     let blanks : c.fill.new.self ≡ replicate (24 - n) blank = c.fill.ensures.after (λ y h. search) ∙ ap (λ x. replicate x blank) (search (rules, places)) in
     rw (front, blanks, z) (laid n c.args.rows.now (take n t) (replicate (24 - n) blank) (omega arith) long)

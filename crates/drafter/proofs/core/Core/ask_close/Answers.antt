@@ -6,9 +6,9 @@ use Rattle.drafter.proofs.core.Core.ask_close.Goals as goal
 pub returns-then-size-self : goal.returns-then-size-self
 returns-then-size-self c =
     let h = with_header c.args.self.now c.requires.shown (omega arith) in
-    close_cramped c.args.self.now c.requires c.args.sign-type c.args.size h.0 h.1 (sym c.if-not-sign-fits.ensures) (omega arith)
+    close_cramped c.args.self.now c.requires c.args.sign_type c.args.size h.0 h.1 (sym c.if-not-sign_fits.ensures) (omega arith)
 
 pub returns : goal.returns
 returns c =
     let h = with_header c.args.self.now c.requires.shown (omega arith) in
-    close_stands c.args.self.now c.requires c.args.sign-type c.args.size h.0 h.1 (sym c.if-not-sign-fits.ensures) (omega arith)
+    close_stands c.args.self.now c.requires c.args.sign_type c.args.size h.0 h.1 (sym c.if-not-sign_fits.ensures) (omega arith)

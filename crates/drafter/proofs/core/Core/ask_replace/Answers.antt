@@ -9,11 +9,11 @@ returns-then-position-self c =
     let h = with_header c.args.self.now c.requires.shown (omega arith) in
     replace_elsewhere _ c.requires.shown h.0 h.1 c.args.position (omega arith) c.args.code c.args.body.now
 
-pub returns-in-err-ask-payload : goal.returns-in-err-ask-payload
-returns-in-err-ask-payload c =
-    let p = err_from_is_err_and c.from-residual.result c.from-residual.ensures.1 in
+pub returns-in_err-ask_payload : goal.returns-in_err-ask_payload
+returns-in_err-ask_payload c =
+    let p = err_from_is_err_and c.from_residual.result c.from_residual.ensures.1 in
     let h = with_header c.args.self.now c.requires.shown (omega arith) in
-    p.1 ∙ ap Err p.2 ∙ replace_refused _ c.requires.shown h.0 h.1 c.args.position (omega arith) c.args.code c.args.body.now _ c.in-err-ask-payload.ensures
+    p.1 ∙ ap Err p.2 ∙ replace_refused _ c.requires.shown h.0 h.1 c.args.position (omega arith) c.args.code c.args.body.now _ c.in_err-ask_payload.ensures
 
 pub overflow-sub-others : goal.overflow-sub-others
 overflow-sub-others c =
@@ -23,9 +23,9 @@ overflow-sub-others c =
 pub returns-then-body-self : goal.returns-then-body-self
 returns-then-body-self c =
     let h = with_header c.args.self.now c.requires.shown (omega arith) in
-    replace_cramped _ c.requires.shown h.0 h.1 c.args.position (omega arith) c.args.code c.args.body.now c.in-ok-ask-payload.ensures (omega (arith, c.size.ensures))
+    replace_cramped _ c.requires.shown h.0 h.1 c.args.position (omega arith) c.args.code c.args.body.now c.in_ok-ask_payload.ensures (omega (arith, c.size.ensures))
 
 pub returns : goal.returns
 returns c =
     let h = with_header c.args.self.now c.requires.shown (omega arith) in
-    replace_accepted _ c.requires.shown h.0 h.1 c.args.position (omega arith) c.args.code c.args.body.now c.in-ok-ask-payload.ensures (omega (arith, c.size.ensures))
+    replace_accepted _ c.requires.shown h.0 h.1 c.args.position (omega arith) c.args.code c.args.body.now c.in_ok-ask_payload.ensures (omega (arith, c.size.ensures))

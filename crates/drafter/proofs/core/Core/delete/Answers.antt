@@ -10,8 +10,8 @@ bounds-self-spot c =
     let n = removal s c.args.position d.shown c.requires.asked in
     omega (arith, spot_room s d n.header n.has c.args.position n.there c.spot-spot.result c.spot-spot.ensures, end_counted s d, counted_within s d)
 
-pub take-out-requires : goal.take-out-requires
-take-out-requires c =
+pub take_out-requires : goal.take_out-requires
+take_out-requires c =
     let s = c.args.self.now in
     let d = c.requires.draft in
     let n = removal s c.args.position d.shown c.requires.asked in
@@ -33,7 +33,7 @@ returns c =
     let n = removal s c.args.position d.shown c.requires.asked in
     let names = next_names s d n.header n.has c.args.position n.there c.spot-spot.result c.spot-spot.ensures in
     record {
-      leaves = deleted_leaves s _ c.args.position d n c.spot-spot.result c.spot-spot.ensures c.size-old.result _ c.size-old.ensures names c.take-out.ensures
+      leaves = deleted_leaves s _ c.args.position d n c.spot-spot.result c.spot-spot.ensures c.size-old.result _ c.size-old.ensures names c.take_out.ensures
           (omega arith) refl refl refl refl refl refl;
       name = refl;
     }

@@ -5,8 +5,8 @@ use Rattle.plain.specs.Steps.{headed}
 use Rattle.drafter.proofs.Opened.{refused_leaves}
 use Rattle.drafter.proofs.core.Core.head.Goals as goal
 
-pub returns-in-err-ask-head : goal.returns-in-err-ask-head
-returns-in-err-ask-head c =
-    let p = err_from_is_err_and c.from-residual.result c.from-residual.ensures.1 in
-    let e = ap Err p.2 ∙ c.in-err-ask-head.ensures in
+pub returns-in_err-ask_head : goal.returns-in_err-ask_head
+returns-in_err-ask_head c =
+    let p = err_from_is_err_and c.from_residual.result c.from_residual.ensures.1 in
+    let e = ap Err p.2 ∙ c.in_err-ask_head.ensures in
     record { answer = p.1 ∙ e; leaves = refused_leaves c.args.self.now c.requires.draft (head (headed c.args.head.now)) p.0 e; name = refl }

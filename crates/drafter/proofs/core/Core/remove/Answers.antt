@@ -4,8 +4,8 @@ use Rattle.plain.specs.Edits.Edit.{remove}
 use Rattle.drafter.proofs.Opened.{refused_leaves}
 use Rattle.drafter.proofs.core.Core.remove.Goals as goal
 
-pub returns-in-err-ask-remove : goal.returns-in-err-ask-remove
-returns-in-err-ask-remove c =
-    let p = err_from_is_err_and c.from-residual.result c.from-residual.ensures.1 in
-    let e = ap Err p.2 ∙ c.in-err-ask-remove.ensures in
+pub returns-in_err-ask_remove : goal.returns-in_err-ask_remove
+returns-in_err-ask_remove c =
+    let p = err_from_is_err_and c.from_residual.result c.from_residual.ensures.1 in
+    let e = ap Err p.2 ∙ c.in_err-ask_remove.ensures in
     record { answer = p.1 ∙ e; leaves = refused_leaves c.args.self.now c.requires (remove c.args.position) p.0 e; name = refl }

@@ -4,8 +4,8 @@ use Rattle.drafter.proofs.Opened.{counted_within, end_counted}
 use Rattle.drafter.proofs.Heading.{header_within, head_room, headed_leaves}
 use Rattle.drafter.proofs.core.Core.set_header.Goals as goal
 
-pub put-header-requires : goal.put-header-requires
-put-header-requires c =
+pub put_header-requires : goal.put_header-requires
+put_header-requires c =
     let s = c.args.self.now in
     let d = c.requires.draft in
     let within = counted_within s d in
@@ -16,7 +16,7 @@ overflow-sub-self c = header_within c.args.self.now c.requires.draft
 
 pub returns : goal.returns
 returns c = record {
-  leaves = headed_leaves c.args.self.now c.requires.draft (headed c.args.head.now) c.requires.asked _ c.first-next.result c.first-next.ensures c.put-header.ensures c.requires.widths
+  leaves = headed_leaves c.args.self.now c.requires.draft (headed c.args.head.now) c.requires.asked _ c.first-next.result c.first-next.ensures c.put_header.ensures c.requires.widths
       (omega arith) refl refl refl refl refl refl;
   name = refl;
 }

@@ -4,8 +4,8 @@ use Rattle.drafter.proofs.Asking.{with_header}
 use Rattle.drafter.proofs.Located.{located_within}
 use Rattle.drafter.proofs.core.Core.size.Goals as goal
 
-pub size-at-requires : goal.size-at-requires
-size-at-requires c =
+pub size_at-requires : goal.size_at-requires
+size_at-requires c =
     let s = c.args.self.now in
     let h = with_header s c.requires.draft (omega arith) in
     let z : s.end - 0 ≡ s.end = omega arith in
@@ -15,4 +15,4 @@ pub returns : goal.returns
 returns c =
     let s = c.args.self.now in
     let z : s.end - 0 ≡ s.end = omega arith in
-    c.size-at.ensures.is ∙ ap₂ (λ n x. size_at (take n s.buffer.now) x) z c.spot-spot.ensures
+    c.size_at.ensures.is ∙ ap₂ (λ n x. size_at (take n s.buffer.now) x) z c.spot-spot.ensures

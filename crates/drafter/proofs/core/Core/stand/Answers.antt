@@ -4,8 +4,8 @@ use Rattle.drafter.proofs.Opened.{counted_within, front_lies}
 use Rattle.drafter.proofs.Standing.{naming_before, stand_at}
 use Rattle.drafter.proofs.core.Core.stand.Goals as goal
 
-pub put-sign-requires : goal.put-sign-requires
-put-sign-requires c =
+pub put_sign-requires : goal.put_sign-requires
+put_sign-requires c =
     let s = c.args.self.now in
     let w = c.requires.draft.0 in
     let within = counted_within s w in
@@ -20,7 +20,7 @@ returns c =
     let w = c.requires.draft.0 in
     let h = with_header s w.shown c.requires.draft.1 in
     record {
-      at = stand_at s _ w.shown c.spot-naming.result c.spot-naming.ensures c.requires.draft.1 c.args.sign-type c.args.size c.requires.numbers.0 c.requires.numbers.1.0 c.requires.numbers.1.1
-          c.requires.room (front_lies s w h.0 h.1) c.put-sign.ensures (omega arith) refl refl refl refl refl refl;
+      at = stand_at s _ w.shown c.spot-naming.result c.spot-naming.ensures c.requires.draft.1 c.args.sign_type c.args.size c.requires.numbers.0 c.requires.numbers.1.0 c.requires.numbers.1.1
+          c.requires.room (front_lies s w h.0 h.1) c.put_sign.ensures (omega arith) refl refl refl refl refl refl;
       name = refl;
     }

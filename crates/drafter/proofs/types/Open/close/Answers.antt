@@ -4,13 +4,13 @@ use Rattle.drafter.proofs.types.Open.close.Goals as goal
 pub close-requires : goal.close-requires
 close-requires g c = editable c.args.self.core c.args.self.shown c.args.self.«open»
 
-pub invariant-of-result : goal.invariant-of-result
-invariant-of-result g c =
+pub invariant_of-result : goal.invariant_of-result
+invariant_of-result g c =
     let s = c.args.self in
     let w = editable s.core s.shown s.«open» in
     let b = c.close.ensures.at in (
       becomes_shown _ s.core c.close.new.self b,
-      (close_out s.core w (g.P.Profile.tables c.args.profile.now) c.args.sign-type c.args.size c.close.new.self b, tt),
+      (close_out s.core w (g.P.Profile.tables c.args.profile.now) c.args.sign_type c.args.size c.close.new.self b, tt),
     )
 
 pub returns : goal.returns
@@ -18,6 +18,6 @@ returns g c =
     let s = c.args.self in
     let w = editable s.core s.shown s.«open» in
     record {
-      turns = close_turns s.core w (g.P.Profile.tables c.args.profile.now) c.args.sign-type c.args.size c.close.new.self c.close.ensures.at;
+      turns = close_turns s.core w (g.P.Profile.tables c.args.profile.now) c.args.sign_type c.args.size c.close.new.self c.close.ensures.at;
       lent = c.close.ensures.name;
     }

@@ -7,8 +7,8 @@ remove-requires c =
     let s = c.args.self.now in
     editable s.core s.shown s.«open»
 
-pub invariant-of-self : goal.invariant-of-self
-invariant-of-self c =
+pub invariant_of-self : goal.invariant_of-self
+invariant_of-self c =
     let s = c.args.self.now in
     let w = editable s.core s.shown s.«open» in
     let b = c.remove.ensures.leaves in

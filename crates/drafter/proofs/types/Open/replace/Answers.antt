@@ -7,8 +7,8 @@ replace-requires c =
     let s = c.args.self.now in
     record { draft = editable s.core s.shown s.«open»; octets = c.octets.ensures }
 
-pub invariant-of-self : goal.invariant-of-self
-invariant-of-self c =
+pub invariant_of-self : goal.invariant_of-self
+invariant_of-self c =
     let s = c.args.self.now in
     let w = editable s.core s.shown s.«open» in
     let b = c.replace.ensures.leaves in

@@ -6,8 +6,8 @@ use Rattle.drafter.proofs.types.Out.sign.Goals as goal
 pub sign-requires : goal.sign-requires
 sign-requires c = let s = c.args.self.now in record { draft = out_draft s.core s.shown s.out; octets = c.octets.ensures }
 
-pub invariant-of-self : goal.invariant-of-self
-invariant-of-self c =
+pub invariant_of-self : goal.invariant_of-self
+invariant_of-self c =
     let s = c.args.self.now in
     let b = c.sign.ensures.follows in
     (becomes_shown _ s.core c.sign.new.self b, (sign_out s.core (out_draft s.core s.shown s.out) c.sign.new.self c.args.signature.now b, tt))

@@ -8,8 +8,8 @@ use Rattle.drafter.proofs.types.Out.withdraw.Goals as goal
 pub withdraw-requires : goal.withdraw-requires
 withdraw-requires c = let s = c.args.self in out_draft s.core s.shown s.out
 
-pub invariant-of-result : goal.invariant-of-result
-invariant-of-result c =
+pub invariant_of-result : goal.invariant_of-result
+invariant_of-result c =
     let s = c.args.self in
     (becomes_shown _ s.core c.withdraw.new.self c.withdraw.ensures.follows, (ap is_open c.withdraw.ensures.«open», tt))
 
