@@ -15,7 +15,7 @@ use Rattle.walk.specs.Walks.{Walks}
 use Rattle.profile.specs.Tables.{Tables}
 use Rattle.profile.specs.Admitting.{admitting}
 use Rattle.plain.specs.Kept.{HeaderKept}
-use Rattle.drafter.specs.declared.core.Core.{Core}
+use Rattle.drafter.specs.declared.state.Core.{Core}
 use Rattle.drafter.specs.Cores.{plain_of}
 use Rattle.drafter.specs.Signs.{Signed, message_in, AdmitsBy}
 use Rattle.drafter.proofs.Standing.{signed_head, signed_some, signed_lawful, signed_full, full_counted, signed_lies}

@@ -13,7 +13,7 @@ use Rattle.plain.specs.Edits.{Edit, header_of}
 use Rattle.plain.specs.Edits.Edit.{head, add, replace, remove}
 use Rattle.plain.proofs.Joints.{lengths, lengths_append, lengths_one, front_long}
 use Rattle.plain.proofs.Offers.{offered_is}
-use Rattle.drafter.specs.declared.core.Core.{Core}
+use Rattle.drafter.specs.declared.state.Core.{Core}
 use Rattle.drafter.specs.Cores.{header_size, Shows, plain_of, Shown}
 use Rattle.drafter.specs.Edits.{asking}
 

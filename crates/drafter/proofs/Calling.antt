@@ -15,9 +15,9 @@ use Rattle.plain.specs.Steps.Step.{edit, close, sign, withdraw}
 use Rattle.plain.specs.Turns.{settled, Turns}
 use Rattle.plain.proofs.Turning.{turns}
 use Rattle.plain.proofs.Keeping.{begin_kept}
-use Rattle.drafter.specs.declared.core.Core.{Core}
-use Rattle.drafter.specs.declared.core.Phase.{Phase}
-use Rattle.drafter.specs.declared.core.Phase.TheVariants as phase
+use Rattle.drafter.specs.declared.state.Core.{Core}
+use Rattle.drafter.specs.declared.state.Phase.{Phase}
+use Rattle.drafter.specs.declared.state.Phase.TheVariants as phase
 use Rattle.drafter.specs.Cores.{phase_of, Shows, plain_of, Shown, Becomes}
 use Rattle.drafter.specs.Edits.{Editable, asking, Leaves}
 use Rattle.drafter.specs.Signs.{At, Follows, is_open, is_out, OutDraft}

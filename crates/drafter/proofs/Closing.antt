@@ -15,7 +15,7 @@ use Rattle.plain.specs.Drafts.Stage.{opened, signing}
 use Rattle.plain.specs.Edits.{header_of}
 use Rattle.plain.specs.Steps.{sign_fits, unsigned, closing, closed}
 use Rattle.plain.proofs.Keeping.{header_found}
-use Rattle.drafter.specs.declared.core.Core.{Core}
+use Rattle.drafter.specs.declared.state.Core.{Core}
 use Rattle.drafter.specs.Cores.{Shows, sign_in, plain_of, Shown}
 use Rattle.drafter.specs.Edits.{Editable}
 use Rattle.drafter.specs.Signs.{Signed, At, Closes, message_in, AdmitsBy, standable}

@@ -12,8 +12,8 @@ use Rattle.plain.specs.Steps.{signed, step}
 use Rattle.plain.specs.Steps.Step.{sign}
 use Rattle.plain.specs.Kept.{Kept}
 use Rattle.plain.proofs.Keeping.{same_length, step_kept}
-use Rattle.drafter.specs.declared.core.Core.{Core}
-use Rattle.drafter.specs.declared.core.Phase.TheVariants as phase
+use Rattle.drafter.specs.declared.state.Core.{Core}
+use Rattle.drafter.specs.declared.state.Phase.TheVariants as phase
 use Rattle.drafter.specs.Buffers.{laid}
 use Rattle.drafter.specs.Cores.{Shows, plain_of, Becomes}
 use Rattle.drafter.specs.Signs.{Signed, Follows}

@@ -13,7 +13,7 @@ use Rattle.plain.specs.Edits.{editing}
 use Rattle.plain.specs.Edits.Edit.{head}
 use Rattle.plain.specs.Kept.{EditWidths}
 use Rattle.plain.proofs.Joints.{lengths, payloads_long, front_long}
-use Rattle.drafter.specs.declared.core.Core.{Core}
+use Rattle.drafter.specs.declared.state.Core.{Core}
 use Rattle.drafter.specs.Buffers.{HeaderPut}
 use Rattle.drafter.specs.Cores.{header_size, plain_of}
 use Rattle.drafter.specs.Edits.{Editable, first_in, asking, Accepted, Leaves}

@@ -11,7 +11,7 @@ use Rattle.plain.specs.Steps.{edited}
 use Rattle.plain.specs.Kept.{Kept, EditWidths}
 use Rattle.plain.proofs.Keeping.{editing_sound, open_kept}
 use Rattle.plain.proofs.Joints.{front_append, payloads_append, naming_of, naming_within, renamed}
-use Rattle.drafter.specs.declared.core.Core.{Core}
+use Rattle.drafter.specs.declared.state.Core.{Core}
 use Rattle.drafter.specs.Buffers.{Used, spliced}
 use Rattle.drafter.specs.Cores.{phase_of, header_size, Shows, plain_of, Shown, Becomes}
 use Rattle.drafter.specs.Edits.{Leaves}

@@ -13,7 +13,7 @@ use Rattle.plain.specs.Edits.Edit.{add}
 use Rattle.plain.proofs.Joints.{front_long, naming_of}
 use Rattle.plain.proofs.Offers.{offered_is}
 use Rattle.plain.proofs.Keeping.{header_found}
-use Rattle.drafter.specs.declared.core.Core.{Core}
+use Rattle.drafter.specs.declared.state.Core.{Core}
 use Rattle.drafter.specs.declared.spot.Spot.{Spot}
 use Rattle.drafter.specs.Spots.{spot_at}
 use Rattle.drafter.specs.Buffers.{spliced, Placed}

@@ -4,7 +4,7 @@ use Rattle.std.specs.List.{AllByRecursion as All}
 use Rattle.wire.specs.Messages.{Header, Payload, front}
 use Rattle.plain.specs.Drafts.{Held, standing, bytes_of}
 use Rattle.plain.proofs.Joints.{lengths, lengths_append, front_long}
-use Rattle.drafter.specs.declared.core.Core.{Core}
+use Rattle.drafter.specs.declared.state.Core.{Core}
 use Rattle.drafter.specs.Spots.{spot_at}
 use Rattle.drafter.specs.Cores.{header_size, plain_of, Shown}
 use Rattle.drafter.proofs.Spotting.{spot_behind, spot_there}

@@ -9,7 +9,7 @@ use Rattle.plain.specs.Drafts.Stage.{opened}
 use Rattle.plain.specs.Edits.{Edit, editing}
 use Rattle.plain.specs.Steps.{edited}
 use Rattle.plain.proofs.Joints.{lengths, lengths_append, front_append, front_long, naming_of, naming_within, named}
-use Rattle.drafter.specs.declared.core.Core.{Core}
+use Rattle.drafter.specs.declared.state.Core.{Core}
 use Rattle.drafter.specs.declared.spot.Spot.{Spot}
 use Rattle.drafter.specs.Spots.{spot_at}
 use Rattle.drafter.specs.Buffers.{Used}

@@ -20,7 +20,7 @@ use Rattle.plain.specs.Edits.Edit.{replace, remove}
 use Rattle.plain.proofs.Joints.{lengths, lengths_append, lengths_one, front_append, front_long, naming_of}
 use Rattle.plain.proofs.Offers.{offered_is}
 use Rattle.plain.proofs.Keeping.{header_found}
-use Rattle.drafter.specs.declared.core.Core.{Core}
+use Rattle.drafter.specs.declared.state.Core.{Core}
 use Rattle.drafter.specs.declared.spot.Spot.{Spot}
 use Rattle.drafter.specs.Spots.{size_at, spot_at}
 use Rattle.drafter.specs.Buffers.{spliced, Placed, TakenOut}

@@ -13,8 +13,8 @@ use Rattle.plain.specs.Drafts.{Held, Sign, Stage, Draft, signed_as, counted, byt
 use Rattle.plain.specs.Drafts.Stage.{opened, signing, faulty, released}
 use Rattle.plain.specs.Kept.{SignKept, Sound, Kept}
 use Rattle.plain.proofs.Joints.{front_long}
-use Rattle.drafter.specs.declared.core.Core.{Core}
-use Rattle.drafter.specs.declared.core.Phase.{Phase}
+use Rattle.drafter.specs.declared.state.Core.{Core}
+use Rattle.drafter.specs.declared.state.Phase.{Phase}
 use Rattle.drafter.specs.Spots.{payloads_from}
 use Rattle.drafter.specs.Cores.{phase_of, header_size, Shows, header_in, sign_in, stage_in, plain_of, Shown}
 use Rattle.drafter.proofs.Spotting.{same_front, spot_behind, payloads_there}

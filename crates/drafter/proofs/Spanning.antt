@@ -3,7 +3,7 @@ use Rattle.std.proofs.Common.{◌≡◌, ℕ, ◌+◌, ◌-◌, ◌<◌, ◌≤�
 use Rattle.wire.specs.Messages.{Header, Payload, front, sign_length, span}
 use Rattle.plain.specs.Drafts.{Sign, signed_as, counted, bytes_of, standing, encoded, span_of, spanned}
 use Rattle.plain.specs.Kept.{SignKept}
-use Rattle.drafter.specs.declared.core.Core.{Core}
+use Rattle.drafter.specs.declared.state.Core.{Core}
 use Rattle.drafter.specs.Cores.{plain_of, Shown}
 use Rattle.drafter.proofs.Spotting.{same_front}
 use Rattle.drafter.proofs.Standing.{encode_long}

@@ -16,9 +16,9 @@ use Rattle.wire.proofs.Sessions.{sessions_there, sessions_back}
 use Rattle.wire.proofs.Messages.{map_fits_lem, map_sessions, map_drawn}
 use Rattle.plain.specs.Drafts.{Sign, standing}
 use Rattle.plain.specs.Kept.{HeaderKept, SignKept, Sound, Kept}
-use Rattle.drafter.specs.declared.core.Core.{Core}
-use Rattle.drafter.specs.declared.core.Phase.{Phase}
-use Rattle.drafter.specs.declared.core.Phase.TheVariants as phase
+use Rattle.drafter.specs.declared.state.Core.{Core}
+use Rattle.drafter.specs.declared.state.Phase.{Phase}
+use Rattle.drafter.specs.declared.state.Phase.TheVariants as phase
 use Rattle.drafter.specs.Cores.{phase_of, Shows, sign_in, stage_in, plain_of, Shown}
 
 all_stable : {A : Type 0} (P : A → Type 0) → ((x : A) → ∥ P x ∥₁ → P x) → (xs : List A) → ∥ All P xs ∥₁ → All P xs

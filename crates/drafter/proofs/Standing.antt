@@ -13,8 +13,8 @@ use Rattle.plain.specs.Steps.{unsigned}
 use Rattle.plain.specs.Kept.{SignKept, Sound, Kept}
 use Rattle.plain.proofs.Joints.{front_long, naming_of, naming_within, renamed}
 use Rattle.plain.proofs.Keeping.{unsigned_lawful, open_kept}
-use Rattle.drafter.specs.declared.core.Core.{Core}
-use Rattle.drafter.specs.declared.core.Phase.TheVariants as phase
+use Rattle.drafter.specs.declared.state.Core.{Core}
+use Rattle.drafter.specs.declared.state.Phase.TheVariants as phase
 use Rattle.drafter.specs.declared.spot.Spot.{Spot}
 use Rattle.drafter.specs.Spots.{spot_at}
 use Rattle.drafter.specs.Buffers.{laid}

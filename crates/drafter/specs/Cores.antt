@@ -6,9 +6,9 @@ use Rattle.wire.specs.Walking.{header_of}
 use Rattle.plain.specs.Drafts.{Sign, Stage, Draft, counted, bytes_of, encoded, image}
 use Rattle.plain.specs.Drafts.Stage.{opened, signing, faulty, released}
 use Rattle.plain.specs.Kept.{Kept}
-use Rattle.drafter.specs.declared.core.Core.{Core}
-use Rattle.drafter.specs.declared.core.Phase.{Phase}
-use Rattle.drafter.specs.declared.core.Phase.TheVariants as phase
+use Rattle.drafter.specs.declared.state.Core.{Core}
+use Rattle.drafter.specs.declared.state.Phase.{Phase}
+use Rattle.drafter.specs.declared.state.Phase.TheVariants as phase
 use Rattle.drafter.specs.Spots.{payloads_from}
 
 abbrev pub phase_of : Stage → Phase

@@ -5,8 +5,8 @@ use Rattle.wire.specs.Answers.{Answer}
 use Rattle.plain.specs.Offers.{asked}
 use Rattle.plain.specs.Edits.{Edit, editing}
 use Rattle.plain.specs.Steps.{edited}
-use Rattle.drafter.specs.declared.core.Core.{Core}
-use Rattle.drafter.specs.declared.core.Phase.TheVariants as phase
+use Rattle.drafter.specs.declared.state.Core.{Core}
+use Rattle.drafter.specs.declared.state.Phase.TheVariants as phase
 use Rattle.drafter.specs.Spots.{size_at, spot_at}
 use Rattle.drafter.specs.Cores.{plain_of, Shown, Becomes}
 

@@ -10,9 +10,9 @@ use Rattle.plain.specs.Drafts.{Stage, signed_as}
 use Rattle.plain.specs.Drafts.Stage.{opened, signing}
 use Rattle.plain.specs.Edits.{header_of}
 use Rattle.plain.specs.Steps.{Step, sign_fits, unsigned, step}
-use Rattle.drafter.specs.declared.core.Core.{Core}
-use Rattle.drafter.specs.declared.core.Phase.{Phase}
-use Rattle.drafter.specs.declared.core.Phase.TheVariants as phase
+use Rattle.drafter.specs.declared.state.Core.{Core}
+use Rattle.drafter.specs.declared.state.Phase.{Phase}
+use Rattle.drafter.specs.declared.state.Phase.TheVariants as phase
 use Rattle.drafter.specs.Cores.{sign_in, plain_of, Shown, Becomes}
 
 -- a draft where SIGN stands

@@ -5,12 +5,12 @@ ghost use Rattle.plain.specs.Steps.{step};
 ghost use Rattle.plain.specs.Turns.{delivering};
 ghost use Rattle.plain.specs.Steps.Step.{sign as sign_step, withdraw as withdraw_step, release as release_step};
 ghost use Rattle.plain.specs.declared.calls.Reply.TheVariants.{Released};
-ghost use Rattle.drafter.specs.declared.core.Phase.TheVariants as phase;
+ghost use Rattle.drafter.specs.declared.state.Phase.TheVariants as phase;
 ghost use Rattle.drafter.specs.Cores.{plain_of};
 ghost use Rattle.drafter.specs.Signs.{Signed, Follows, OutDraft};
 
 use crate::buffer::lay;
-use crate::core::{Core, Phase};
+use crate::state::{Core, Phase};
 use wire::Refusal;
 
 impl<'a> Core<'a> {

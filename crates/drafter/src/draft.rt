@@ -9,8 +9,8 @@ ghost use Rattle.drafter.specs.Edits.{Editable};
 ghost use Rattle.drafter.specs.Signs.{Follows, OutDraft};
 ghost use Rattle.drafter.specs.Views.{plain_draft, bytes_draft, lent_draft};
 
-use crate::core::{Core, Phase};
 use crate::open::{start, widths};
+use crate::state::{Core, Phase};
 use crate::types::Draft;
 use plain::{Call, Reply};
 use profile::Profile;

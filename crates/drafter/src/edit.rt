@@ -9,9 +9,9 @@ ghost use Rattle.drafter.specs.Cores.{Shown};
 ghost use Rattle.drafter.specs.Edits.{Editable, size_in, first_in, asking, Accepted, Leaves};
 
 use crate::buffer::{place, put_header, take_out};
-use crate::core::Core;
 use crate::offer::{ask_map, ask_payload};
 use crate::spot::{Spot, find, size_at};
+use crate::state::Core;
 use plain::Head;
 use wire::Refusal;
 

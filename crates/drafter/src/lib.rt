@@ -2,7 +2,6 @@
 #![tactic(auto)]
 
 mod buffer;
-mod core;
 mod delivery;
 mod draft;
 mod edit;
@@ -11,6 +10,7 @@ mod open;
 mod out;
 mod sign;
 mod spot;
+mod state;
 mod types;
 
 pub use open::begin;

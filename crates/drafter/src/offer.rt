@@ -2,7 +2,7 @@
 ghost use Rattle.std.specs.Prelude.{◌≡◌};
 ghost use Rattle.plain.specs.Offers.{unplaced, asked, offering, mapping};
 
-use walk::{body_length, info_length, map_fits};
+use walk::{body as body_length, info_length, map_fits};
 use wire::{Kind, Refusal};
 
 fn unplace(refusal: Refusal) -> Refusal

@@ -11,7 +11,7 @@ ghost use Rattle.drafter.specs.Cores.{Shows};
 ghost use Rattle.drafter.specs.Views.{plain, bytes, lent, plain_out, bytes_out, lent_out};
 
 use crate::buffer::clear;
-use crate::core::{Core, Phase};
+use crate::state::{Core, Phase};
 use crate::types::{Open, Out};
 use plain::Head;
 use profile::Profile;

@@ -7,7 +7,7 @@ ghost use Rattle.plain.specs.declared.calls.Reply.TheVariants.{Done, Released};
 ghost use Rattle.plain.specs.Turns.{delivering, Turns};
 ghost use Rattle.drafter.specs.Views.{plain, bytes, lent, plain_out, bytes_out, lent_out};
 
-use crate::core::Core;
+use crate::state::Core;
 use crate::types::{Open, Out};
 use wire::{Refusal, octets};
 

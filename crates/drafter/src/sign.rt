@@ -7,7 +7,7 @@ ghost use Rattle.drafter.specs.Edits.{Editable};
 ghost use Rattle.drafter.specs.Signs.{Signed, At, Closes, AdmitsBy, standable};
 
 use crate::buffer::{clear_sign, put_sign};
-use crate::core::{Core, Phase};
+use crate::state::{Core, Phase};
 use profile::{Profile, admit};
 use walk::walk;
 use wire::{Refusal, Row};

@@ -2,7 +2,7 @@
 ghost use Rattle.std.specs.Prelude.{◌≡◌, ℕ, ◌<◌, ◌≤◌, length};
 ghost use Rattle.drafter.specs.Spots.{kind_in, size_at, spot_at};
 
-use walk::extent_of;
+use walk::reach;
 use wire::{Kind, byte_at};
 
 // Where a payload starts, and the byte that names it.
@@ -29,7 +29,7 @@ pub(crate) fn size_at(bytes: &[u8], spot: Spot) -> usize
     ensures small { result < 65541 }
 {
     let kind = kind_in(byte_at(bytes, spot.naming));
-    1 + extent_of(kind, &bytes[spot.at + 1..])
+    1 + reach(kind, &bytes[spot.at + 1..])
 }
 
 // The spot of the payload at a position, behind a header of so many bytes.

@@ -3,7 +3,7 @@ ghost use Rattle.std.specs.Prelude.{◌≡◌, true};
 ghost use Rattle.drafter.specs.Cores.{Shown};
 ghost use Rattle.drafter.specs.Signs.{is_open, is_out};
 
-use crate::core::Core;
+use crate::state::Core;
 
 // Takes edits, and goes out by close.
 #[derive(Drop)]

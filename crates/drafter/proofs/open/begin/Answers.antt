@@ -6,7 +6,7 @@ use Rattle.drafter.proofs.Calling.{begun_shown}
 use Rattle.drafter.proofs.open.begin.Goals as goal
 
 pub invariant_of-result : goal.invariant_of-result
-invariant_of-result c = (begun_shown c.start.result c.start.ensures.shows, (ap is_open c.start.ensures.shows.phase, tt))
+invariant_of-result c = record { shown = begun_shown c.start.result c.start.ensures.shows; «open» = ap is_open c.start.ensures.shows.phase }
 
 pub returns : goal.returns
 returns c = record { draft = plain_is begin c.start.result c.start.ensures.shows; buffer = c.start.ensures.buffer; lent = c.start.ensures.name }

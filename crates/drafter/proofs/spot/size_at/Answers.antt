@@ -6,6 +6,6 @@ use Rattle.drafter.proofs.spot.size_at.Goals as goal
 
 pub returns : goal.returns
 returns c = record {
-  is = ap (λ n. 1 + n) (c.extent_of.ensures.is ∙ ap₂ extent (c.kind_in-kind.ensures ∙ ap kind_in c.byte_at.ensures) (take_rest c.args.bytes.now (c.args.spot.at + 1)));
+  is = ap (λ n. 1 + n) (c.reach.ensures.is ∙ ap₂ extent (c.kind_in-kind.ensures ∙ ap kind_in c.byte_at.ensures) (take_rest c.args.bytes.now (c.args.spot.at + 1)));
   small = omega arith;
 }

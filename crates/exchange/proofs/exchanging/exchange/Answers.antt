@@ -4,8 +4,8 @@ use Rattle.exchange.specs.Redrafts.{Redrafts}
 use Rattle.exchange.proofs.Promised.{promise, within}
 use Rattle.exchange.proofs.exchanging.exchange.Goals as goal
 
-pub slice-bounds-message-end : goal.slice-bounds-message-end
-slice-bounds-message-end g c = within _ _ _ _ _ _ c.run-length.ensures.runs
+pub slice_bounds-message-end : goal.slice_bounds-message-end
+slice_bounds-message-end g c = within _ _ _ _ _ _ c.run-length.ensures.runs
 
 pub returns : goal.returns
 returns g c =

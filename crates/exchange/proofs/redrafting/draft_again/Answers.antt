@@ -24,14 +24,14 @@ loop-i-init g c =
 pub bounds-rows-i : goal.bounds-rows-i
 bounds-rows-i g c = omega (arith, (measures c.requires.told).long)
 
-pub slice-bounds-add-count : goal.slice-bounds-add-count
-slice-bounds-add-count g c = let r = (measures c.requires.told).row c.loop-i.i blank (omega arith) in omega (arith, r.0)
+pub slice_bounds-add-count : goal.slice_bounds-add-count
+slice_bounds-add-count g c = let r = (measures c.requires.told).row c.loop-i.i blank (omega arith) in omega (arith, r.0)
 
-pub slice-bounds-add-start : goal.slice-bounds-add-start
-slice-bounds-add-start g c = let r = (measures c.requires.told).row c.loop-i.i blank (omega arith) in omega (arith, r.0)
+pub slice_bounds-add-start : goal.slice_bounds-add-start
+slice_bounds-add-start g c = let r = (measures c.requires.told).row c.loop-i.i blank (omega arith) in omega (arith, r.0)
 
-pub slice-bounds-add-end : goal.slice-bounds-add-end
-slice-bounds-add-end g c = let r = (measures c.requires.told).row c.loop-i.i blank (omega arith) in omega (arith, r.1)
+pub slice_bounds-add-end : goal.slice_bounds-add-end
+slice_bounds-add-end g c = let r = (measures c.requires.told).row c.loop-i.i blank (omega arith) in omega (arith, r.1)
 
 pub loop-i-preserved : goal.loop-i-preserved
 loop-i-preserved g c =
@@ -47,14 +47,14 @@ loop-i-preserved g c =
 pub bounds-message-walked : goal.bounds-message-walked
 bounds-message-walked g c = let k = measures c.requires.told in omega (arith, k.span_most, k.span_least)
 
-pub overflow-sub-message : goal.overflow-sub-message
-overflow-sub-message g c = omega (arith, (measures c.requires.told).span_most)
+pub overflow_sub-message : goal.overflow_sub-message
+overflow_sub-message g c = omega (arith, (measures c.requires.told).span_most)
 
-pub slice-bounds-sign-count : goal.slice-bounds-sign-count
-slice-bounds-sign-count g c = omega (arith, (measures c.requires.told).span_most)
+pub slice_bounds-sign-count : goal.slice_bounds-sign-count
+slice_bounds-sign-count g c = omega (arith, (measures c.requires.told).span_most)
 
-pub slice-bounds-sign-start : goal.slice-bounds-sign-start
-slice-bounds-sign-start g c = omega (arith, (measures c.requires.told).span_most)
+pub slice_bounds-sign-start : goal.slice_bounds-sign-start
+slice_bounds-sign-start g c = omega (arith, (measures c.requires.told).span_most)
 
 pub returns : goal.returns
 returns g c =

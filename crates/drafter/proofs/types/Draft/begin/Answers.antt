@@ -4,7 +4,7 @@ use Rattle.drafter.proofs.Calling.{begun_shown}
 use Rattle.drafter.proofs.types.Draft.begin.Goals as goal
 
 pub invariant_of-result : goal.invariant_of-result
-invariant_of-result c = (begun_shown c.start.result c.start.ensures.shows, tt)
+invariant_of-result c = record { shown = begun_shown c.start.result c.start.ensures.shows }
 
 pub returns : goal.returns
 returns c = record { draft = plain_is begin c.start.result c.start.ensures.shows; buffer = c.start.ensures.buffer; lent = c.start.ensures.name }

@@ -7,7 +7,7 @@ pub call-requires : goal.call-requires
 call-requires g c = let s = c.args.self.now in record { draft = shown_stable s.core s.shown; widths = c.call_widths.ensures }
 
 pub invariant_of-self : goal.invariant_of-self
-invariant_of-self g c = (becomes_shown _ c.args.self.now.core c.call.new.self c.call.ensures.follows, tt)
+invariant_of-self g c = record { shown = becomes_shown _ c.args.self.now.core c.call.new.self c.call.ensures.follows }
 
 pub returns : goal.returns
 returns g c =

@@ -8,10 +8,11 @@ pub invariant_of-result : goal.invariant_of-result
 invariant_of-result g c =
     let s = c.args.self in
     let w = editable s.core s.shown s.«open» in
-    let b = c.close.ensures.at in (
-      becomes_shown _ s.core c.close.new.self b,
-      (close_out s.core w (g.P.Profile.tables c.args.profile.now) c.args.sign_type c.args.size c.close.new.self b, tt),
-    )
+    let b = c.close.ensures.at in
+    record {
+      shown = becomes_shown _ s.core c.close.new.self b;
+      out = close_out s.core w (g.P.Profile.tables c.args.profile.now) c.args.sign_type c.args.size c.close.new.self b;
+    }
 
 pub returns : goal.returns
 returns g c =

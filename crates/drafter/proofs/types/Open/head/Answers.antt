@@ -13,7 +13,7 @@ invariant_of-self c =
     let s = c.args.self.now in
     let w = editable s.core s.shown s.«open» in
     let b = c.head.ensures.leaves in
-    (becomes_shown _ s.core c.head.new.self b, (edit_open s.core w (head (headed c.args.head.now)) c.head.new.self b, tt))
+    record { shown = becomes_shown _ s.core c.head.new.self b; «open» = edit_open s.core w (head (headed c.args.head.now)) c.head.new.self b }
 
 pub returns : goal.returns
 returns c =

@@ -12,7 +12,7 @@ invariant_of-self c =
     let s = c.args.self.now in
     let w = editable s.core s.shown s.«open» in
     let b = c.remove.ensures.leaves in
-    (becomes_shown _ s.core c.remove.new.self b, (edit_open s.core w (remove c.args.position) c.remove.new.self b, tt))
+    record { shown = becomes_shown _ s.core c.remove.new.self b; «open» = edit_open s.core w (remove c.args.position) c.remove.new.self b }
 
 pub returns : goal.returns
 returns c =

@@ -10,7 +10,7 @@ pub invariant_of-self : goal.invariant_of-self
 invariant_of-self c =
     let s = c.args.self.now in
     let b = c.sign.ensures.follows in
-    (becomes_shown _ s.core c.sign.new.self b, (sign_out s.core (out_draft s.core s.shown s.out) c.sign.new.self c.args.signature.now b, tt))
+    record { shown = becomes_shown _ s.core c.sign.new.self b; out = sign_out s.core (out_draft s.core s.shown s.out) c.sign.new.self c.args.signature.now b }
 
 pub returns : goal.returns
 returns c =

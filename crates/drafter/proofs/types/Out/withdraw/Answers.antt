@@ -11,7 +11,7 @@ withdraw-requires c = let s = c.args.self in out_draft s.core s.shown s.out
 pub invariant_of-result : goal.invariant_of-result
 invariant_of-result c =
     let s = c.args.self in
-    (becomes_shown _ s.core c.withdraw.new.self c.withdraw.ensures.follows, (ap is_open c.withdraw.ensures.«open», tt))
+    record { shown = becomes_shown _ s.core c.withdraw.new.self c.withdraw.ensures.follows; «open» = ap is_open c.withdraw.ensures.«open» }
 
 pub returns : goal.returns
 returns c =
