@@ -1,4 +1,6 @@
 // Messages tried by hand, as a table that is proved of the same definitions that the calls are.
+#![tactic(auto)]
+
 ghost use Rattle.std.specs.Prelude.{◌≡◌, length};
 ghost use Rattle.cases.specs.Cases.{cases, Tried};
 

@@ -1,7 +1,11 @@
 // Bytes in hexadecimal.
+ghost use Rattle.std.specs.Prelude.{◌<◌, IfSome};
+
 use std::io;
 
-fn digit(letter: u8) -> Option<u8> {
+fn digit(letter: u8) -> Option<u8>
+    ensures { IfSome result (λ d. d < 16) }
+{
     match letter {
         b'0'..=b'9' => Some(letter - b'0'),
         b'a'..=b'f' => Some(letter - b'a' + 10),

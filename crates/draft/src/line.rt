@@ -1,4 +1,5 @@
 // A line of the script.
+ghost use Rattle.std.specs.Prelude.{◌≤◌, IfSome};
 
 // What a line asks for. Bytes are still spelled in hexadecimal.
 #[derive(Clone, Copy)]
@@ -39,7 +40,9 @@ pub enum Line<'a> {
 }
 
 // The digits of a number and their base: `0x` marks hexadecimal. No sign.
-fn digits(word: &str) -> Option<(&str, u32)> {
+fn digits(word: &str) -> Option<(&str, u32)>
+    ensures { IfSome result (λ d. (2 ≤ d.1) × (d.1 ≤ 36)) }
+{
     let (digits, base) = match word.strip_prefix("0x") {
         Some(digits) => (digits, 16),
         None => (word, 10),

@@ -1,10 +1,9 @@
 -- The message of a draft where SIGN stands, as it is walked and as a profile is asked about it.
-use Rattle.std.proofs.Common.{◌≡◌, ℕ, ◌+◌, ◌-◌, ◌<◌, ◌≤◌, List, [], ◌∷◌, ◌++◌, length, take, Some, Ok, Err, sym, refl, ap, ◌∙◌, subst, ap₂, arith, take_at}
-use Rattle.std.proofs.lemmas.List.{length_push}
+use Rattle.std.proofs.Common.{◌≡◌, ℕ, ◌≤◌, List, length, take, Some, Ok, Err, sym, refl, ap, ◌∙◌, subst, ap₂, arith, take_at}
 use Rattle.wire.specs.declared.refusal.Refusal.{Refusal}
 use Rattle.wire.specs.declared.row.Row.{Row}
 use Rattle.wire.specs.declared.row.Walked.{Walked}
-use Rattle.wire.specs.Messages.{Header, Payload, Message, encode, pieces}
+use Rattle.wire.specs.Messages.{Header, Message, encode, pieces}
 use Rattle.wire.specs.Lawful.{Lawful}
 use Rattle.wire.specs.Rows.{rows, header_length, walked_of, filled}
 use Rattle.wire.specs.Answers.{Answer}

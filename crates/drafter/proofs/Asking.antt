@@ -1,20 +1,19 @@
 -- What edits are refused for, by the numbers of a draft in its buffer.
-use Rattle.std.proofs.Common.{◌≡◌, ℕ, ◌+◌, ◌-◌, ◌<◌, ◌≤◌, true, false, ltb, leb, List, [], ◌∷◌, ◌++◌, length, take, drop, set, Some, None, Ok, Err, Option, sym, refl, ap, ◌∙◌, subst, arith, take-append-drop}
-use Rattle.std.specs.List.{insert, remove as removed, AllByRecursion as All}
+use Rattle.std.proofs.Common.{◌≡◌, ℕ, ◌+◌, ◌-◌, ◌<◌, ◌≤◌, true, false, ltb, leb, List, [], ◌∷◌, length, take, drop, Some, None, Ok, Err, Option, sym, refl, ap, ◌∙◌, arith, take-append-drop}
+use Rattle.std.specs.List.{insert}
 use Rattle.std.proofs.lemmas.Bool.{le-leb, lt-leb, lt-ltb, le-ltb}
 use Rattle.wire.specs.declared.refusal.Refusal.{Refusal}
-use Rattle.wire.specs.declared.refusal.Refusal.TheVariants.{NoHeader, NoPosition, DraftFull, NoRoom}
-use Rattle.wire.specs.Messages.{Header, Payload, front}
-use Rattle.wire.specs.Answers.{Answer, map_ok}
+use Rattle.wire.specs.declared.refusal.Refusal.TheVariants.{NoPosition, DraftFull, NoRoom}
+use Rattle.wire.specs.Messages.{Header, Payload}
+use Rattle.wire.specs.Answers.{Answer}
 use Rattle.wire.proofs.Answers.{found, refused}
 use Rattle.plain.specs.Drafts.{Held, bytes_of}
-use Rattle.plain.specs.Offers.{asked, offering, mapping}
-use Rattle.plain.specs.Edits.{Edit, header_of}
-use Rattle.plain.specs.Edits.Edit.{head, add, replace, remove}
+use Rattle.plain.specs.Offers.{asked, offering}
+use Rattle.plain.specs.Edits.Edit.{add}
 use Rattle.plain.proofs.Joints.{lengths, lengths_append, lengths_one, front_long}
 use Rattle.plain.proofs.Offers.{offered_is}
 use Rattle.drafter.specs.declared.state.Core.{Core}
-use Rattle.drafter.specs.Cores.{header_size, Shows, plain_of, Shown}
+use Rattle.drafter.specs.Cores.{header_size, plain_of, Shown}
 use Rattle.drafter.specs.Edits.{asking}
 
 no_header : (o : Option Header) → header_size o ≡ 0 → o ≡ None

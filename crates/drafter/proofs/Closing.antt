@@ -1,10 +1,10 @@
 -- A draft that is closed.
-use Rattle.std.proofs.Common.{◌≡◌, ℕ, ◌+◌, ◌-◌, ◌<◌, ◌≤◌, Bool, true, false, leb, List, [], ◌∷◌, ◌++◌, length, drop, Some, None, Ok, Err, Option, sym, refl, ap, ◌∙◌, subst, ap₂, arith}
+use Rattle.std.proofs.Common.{◌≡◌, ℕ, ◌+◌, ◌-◌, ◌<◌, ◌≤◌, Bool, true, false, leb, length, drop, Some, None, Ok, Err, Option, sym, refl, ap, ◌∙◌, subst, ap₂, arith}
 use lib.ListN.{length-replicate}
 use Rattle.std.proofs.lemmas.Bool.{leb-true, le-leb, lt-leb, and_parts}
 use Rattle.wire.specs.declared.refusal.Refusal.{Refusal}
-use Rattle.wire.specs.declared.refusal.Refusal.TheVariants.{NoHeader, SignForm, NoRoom}
-use Rattle.wire.specs.Messages.{Header, Payload, Message, front, encode}
+use Rattle.wire.specs.declared.refusal.Refusal.TheVariants.{SignForm, NoRoom}
+use Rattle.wire.specs.Messages.{Header, encode}
 use Rattle.wire.specs.Rows.{rows}
 use Rattle.wire.specs.Answers.{Answer, check, and_then}
 use Rattle.wire.proofs.Answers.{check_ok, and_then_ok, never_ok}
@@ -13,15 +13,13 @@ use Rattle.profile.specs.Admitting.{admitting}
 use Rattle.plain.specs.Drafts.{Held, signed_as}
 use Rattle.plain.specs.Drafts.Stage.{opened, signing}
 use Rattle.plain.specs.Edits.{header_of}
-use Rattle.plain.specs.Steps.{sign_fits, unsigned, closing, closed}
+use Rattle.plain.specs.Steps.{sign_fits, unsigned, closing}
 use Rattle.plain.proofs.Keeping.{header_found}
 use Rattle.drafter.specs.declared.state.Core.{Core}
-use Rattle.drafter.specs.Cores.{Shows, sign_in, plain_of, Shown}
+use Rattle.drafter.specs.Cores.{Shows, sign_in, plain_of}
 use Rattle.drafter.specs.Edits.{Editable}
-use Rattle.drafter.specs.Signs.{Signed, At, Closes, message_in, AdmitsBy, standable}
+use Rattle.drafter.specs.Signs.{Signed, At, message_in, AdmitsBy, standable}
 use Rattle.drafter.proofs.Showing.{plain_is, shown, sign_same, sign_lawful}
-use Rattle.drafter.proofs.Asking.{with_header}
-use Rattle.drafter.proofs.Located.{header_some}
 use Rattle.drafter.proofs.Imaging.{stays}
 use Rattle.drafter.proofs.Opened.{open_stage, end_is, end_counted}
 use Rattle.drafter.proofs.Standing.{encode_long}

@@ -1,5 +1,5 @@
 -- A signature that is written into the buffer.
-use Rattle.std.proofs.Common.{◌≡◌, ℕ, ◌+◌, ◌-◌, ◌*◌, ◌<◌, ◌≤◌, Bool, true, false, eqb, List, [], ◌∷◌, ◌++◌, length, take, drop, replicate, Some, None, sym, refl, ap, ◌∙◌, subst, ap₂, append_assoc, arith, length-append, take_at, drop_at}
+use Rattle.std.proofs.Common.{◌≡◌, ℕ, ◌+◌, ◌-◌, ◌*◌, Bool, true, false, eqb, List, ◌++◌, length, take, drop, replicate, Some, None, sym, ap, ◌∙◌, subst, ap₂, append_assoc, arith, length-append, take_at, drop_at}
 use Rattle.std.proofs.lemmas.Bool.{eq-eqb, ne_eqb}
 use Rattle.std.proofs.lemmas.List.{drop-drop}
 use Rattle.wire.specs.declared.refusal.Refusal.TheVariants.{SignatureLength}
@@ -19,7 +19,7 @@ use Rattle.drafter.specs.Cores.{Shows, plain_of, Becomes}
 use Rattle.drafter.specs.Signs.{Signed, Follows}
 use Rattle.drafter.proofs.Spotting.{same_front}
 use Rattle.drafter.proofs.Imaging.{turned_becomes, stays}
-use Rattle.drafter.proofs.Standing.{g, signed_stage, signed_head, signed_some, signed_full, signed_long, signed_lies}
+use Rattle.drafter.proofs.Standing.{g, signed_stage, signed_head, signed_some, signed_full, signed_lies}
 
 module _ (c : Core) (w : Signed c) (signature : List ℕ) where
   abbrev held : Sign

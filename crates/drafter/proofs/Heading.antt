@@ -1,10 +1,10 @@
 -- A header that is set in the buffer.
-use Rattle.std.proofs.Common.{◌≡◌, ℕ, ◌+◌, ◌-◌, ◌<◌, ◌≤◌, true, false, leb, List, [], ◌∷◌, ◌++◌, length, get_or, Some, None, Ok, Err, Option, sym, refl, ap, ◌∙◌, subst, ap₂, arith, length-append}
+use Rattle.std.proofs.Common.{◌≡◌, ℕ, ◌+◌, ◌-◌, ◌<◌, ◌≤◌, true, false, leb, List, [], ◌++◌, length, get_or, Some, None, Ok, Err, Option, sym, refl, ap, ◌∙◌, arith, length-append}
 use Rattle.std.proofs.lemmas.Bool.{leb-true, le-leb, lt-leb}
 use Rattle.std.proofs.lemmas.List.{nil_from_length}
 use Rattle.wire.specs.declared.refusal.Refusal.{Refusal}
 use Rattle.wire.specs.declared.refusal.Refusal.TheVariants.{NoRoom}
-use Rattle.wire.specs.Messages.{Header, Payload, first, header_bytes, payloads_bytes, front}
+use Rattle.wire.specs.Messages.{Header, Payload, first, header_bytes, payloads_bytes}
 use Rattle.wire.specs.Answers.{Answer}
 use Rattle.wire.proofs.Answers.{check_ok, and_then_ok, same_ok, found, refused}
 use Rattle.plain.specs.Drafts.{Held, bytes_of}

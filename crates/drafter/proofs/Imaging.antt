@@ -1,10 +1,10 @@
 -- The buffer after an edit is the image of the records then held.
-use Rattle.std.proofs.Common.{◌≡◌, ℕ, ◌+◌, ◌-◌, ◌<◌, ◌≤◌, min, List, [], ◌∷◌, ◌++◌, length, get_or, take, drop, set, replicate, Some, None, Ok, Option, sym, refl, ap, ◌∙◌, subst, ap₂, append_assoc, arith, length-append, length-drop, take_at, drop_at}
+use Rattle.std.proofs.Common.{◌≡◌, ℕ, ◌+◌, ◌-◌, ◌≤◌, List, [], ◌∷◌, ◌++◌, length, get_or, take, drop, set, replicate, None, Ok, sym, refl, ap, ◌∙◌, subst, ap₂, append_assoc, arith, length-append, take_at, drop_at}
 use lib.ListN.{length-replicate}
 use Rattle.std.proofs.lemmas.List.{get_or-append_right, get_or_append_left, get_or-replicate, set-append_left}
 use Rattle.wire.specs.Kinds.{code_of}
 use Rattle.wire.specs.Messages.{Header, Payload, first, header_bytes, payloads_bytes, front}
-use Rattle.plain.specs.Drafts.{Held, Draft, counted, bytes_of, encoded, image}
+use Rattle.plain.specs.Drafts.{Held, Draft, counted, bytes_of, encoded}
 use Rattle.plain.specs.Drafts.Stage.{opened}
 use Rattle.plain.specs.Edits.{Edit, editing}
 use Rattle.plain.specs.Steps.{edited}

@@ -1,5 +1,5 @@
 -- A payload that is added in the buffer.
-use Rattle.std.proofs.Common.{◌≡◌, ℕ, ◌+◌, ◌-◌, ◌<◌, ◌≤◌, ltb, leb, List, [], ◌∷◌, ◌++◌, length, take, drop, set, replicate, Some, None, Ok, sym, refl, ap, ◌∙◌, subst, ap₂, arith, take-append-drop}
+use Rattle.std.proofs.Common.{◌≡◌, ℕ, ◌+◌, ◌-◌, ◌≤◌, ltb, leb, List, [], ◌∷◌, ◌++◌, length, take, drop, set, replicate, Some, None, Ok, sym, refl, ap, ◌∙◌, subst, arith, take-append-drop}
 use Rattle.std.specs.List.{insert}
 use Rattle.std.proofs.lemmas.Bool.{leb-true}
 use Rattle.std.proofs.lemmas.List.Edits.{length-insert}
@@ -10,18 +10,18 @@ use Rattle.plain.specs.Drafts.{Held, bytes_of}
 use Rattle.plain.specs.Offers.{offering}
 use Rattle.plain.specs.Edits.{header_of, editing, Is}
 use Rattle.plain.specs.Edits.Edit.{add}
-use Rattle.plain.proofs.Joints.{front_long, naming_of}
+use Rattle.plain.proofs.Joints.{front_long}
 use Rattle.plain.proofs.Offers.{offered_is}
 use Rattle.plain.proofs.Keeping.{header_found}
 use Rattle.drafter.specs.declared.state.Core.{Core}
 use Rattle.drafter.specs.declared.spot.Spot.{Spot}
 use Rattle.drafter.specs.Spots.{spot_at}
 use Rattle.drafter.specs.Buffers.{spliced, Placed}
-use Rattle.drafter.specs.Cores.{header_size, plain_of, Shown}
+use Rattle.drafter.specs.Cores.{plain_of, Shown}
 use Rattle.drafter.specs.Edits.{Editable, Accepted, Leaves}
 use Rattle.drafter.proofs.Asking.{lengths_inserted}
-use Rattle.drafter.proofs.Imaging.{Lies, placed_lies, Turned, edit_leaves}
-use Rattle.drafter.proofs.Opened.{counted_within, end_counted, open_used, front_lies, end_is, at_spot, naming_names}
+use Rattle.drafter.proofs.Imaging.{Lies, placed_lies, edit_leaves}
+use Rattle.drafter.proofs.Opened.{counted_within, end_counted, open_used, front_lies, end_is, at_spot}
 
 -- an add that is accepted
 pub record Insertion (c : Core) (i code : ℕ) (body : List ℕ) : Type 0 where

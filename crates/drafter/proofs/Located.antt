@@ -1,15 +1,13 @@
 -- The spots of a draft in its buffer.
-use Rattle.std.proofs.Common.{◌≡◌, ℕ, ◌+◌, ◌-◌, ◌<◌, ◌≤◌, List, [], ◌∷◌, ◌++◌, length, take, drop, Some, sym, refl, ap, ◌∙◌, subst, ap₂, arith, length-drop, take-append-drop, length-take}
-use Rattle.std.specs.List.{AllByRecursion as All}
+use Rattle.std.proofs.Common.{◌≡◌, ℕ, ◌+◌, ◌<◌, ◌≤◌, List, [], ◌∷◌, length, take, drop, Some, ap, ◌∙◌, ap₂, arith, length-drop, take-append-drop, length-take}
 use Rattle.wire.specs.Messages.{Header, Payload, front}
-use Rattle.plain.specs.Drafts.{Held, standing, bytes_of}
+use Rattle.plain.specs.Drafts.{standing}
 use Rattle.plain.proofs.Joints.{lengths, lengths_append, front_long}
 use Rattle.drafter.specs.declared.state.Core.{Core}
 use Rattle.drafter.specs.Spots.{spot_at}
 use Rattle.drafter.specs.Cores.{header_size, plain_of, Shown}
 use Rattle.drafter.proofs.Spotting.{spot_behind, spot_there}
-use Rattle.drafter.proofs.Showing.{ending, bare_of, bare_length, records_are}
-use Rattle.drafter.proofs.Asking.{with_header}
+use Rattle.drafter.proofs.Showing.{ending, bare_of, records_are}
 
 some_long : (ps : List Payload) → 0 < length ps → 0 < lengths ps
 unfolding lengths

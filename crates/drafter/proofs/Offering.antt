@@ -1,5 +1,5 @@
 -- A payload that is offered and refused for its body.
-use Rattle.std.proofs.Common.{◌≡◌, ℕ, false, List, length, Some, Err, sym, refl}
+use Rattle.std.proofs.Common.{◌≡◌, ℕ, false, List, length, Some, Err}
 use Rattle.wire.specs.declared.kind.Kind.{Kind}
 use Rattle.wire.specs.declared.kind.Kind.TheVariants.{Sign}
 use Rattle.wire.specs.declared.refusal.Refusal.{Refusal}

@@ -1,10 +1,10 @@
 -- The buffer of an open draft.
-use Rattle.std.proofs.Common.{◌≡◌, ℕ, ◌+◌, ◌<◌, ◌≤◌, ltb, List, [], ◌∷◌, ◌++◌, length, get_or, take, drop, Some, None, Err, sym, refl, ap, ◌∙◌, subst, ap₂, arith, take-append-drop}
+use Rattle.std.proofs.Common.{◌≡◌, ℕ, ◌<◌, ◌≤◌, ltb, List, ◌++◌, length, get_or, take, drop, Some, None, Err, sym, ap, ◌∙◌, subst, ap₂, arith, take-append-drop}
 use Rattle.std.proofs.lemmas.List.{get_or_append_left}
 use Rattle.wire.specs.declared.refusal.Refusal.{Refusal}
 use Rattle.wire.specs.Messages.{Header, Payload, first, payloads_bytes, front}
 use Rattle.wire.proofs.Answers.{refused}
-use Rattle.plain.specs.Drafts.{Held, Draft, counted, bytes_of, standing, image}
+use Rattle.plain.specs.Drafts.{Held, bytes_of, image}
 use Rattle.plain.specs.Drafts.Stage.{opened}
 use Rattle.plain.specs.Edits.{Edit, editing}
 use Rattle.plain.specs.Steps.{edited}
@@ -15,7 +15,7 @@ use Rattle.drafter.specs.Spots.{spot_at}
 use Rattle.drafter.specs.Buffers.{Used}
 use Rattle.drafter.specs.Cores.{Shows, sign_in, stage_in, plain_of, Becomes}
 use Rattle.drafter.specs.Edits.{Editable, asking, Leaves}
-use Rattle.drafter.proofs.Spotting.{spot_behind, same_front}
+use Rattle.drafter.proofs.Spotting.{spot_behind}
 use Rattle.drafter.proofs.Located.{located}
 use Rattle.drafter.proofs.Imaging.{Lies, lies_used, stays}
 

@@ -1,5 +1,5 @@
 -- A payload of the buffer that is replaced or removed.
-use Rattle.std.proofs.Common.{◌≡◌, ℕ, suc, ◌+◌, ◌-◌, ◌<◌, ◌≤◌, true, false, ltb, leb, List, [], ◌∷◌, ◌++◌, length, get_or, take, drop, set, replicate, Some, None, Ok, Err, sym, refl, ap, ◌∙◌, subst, ap₂, append-nil, add-one, arith, length-append, length-set}
+use Rattle.std.proofs.Common.{◌≡◌, ℕ, ◌+◌, ◌-◌, ◌<◌, ◌≤◌, true, false, ltb, leb, List, [], ◌∷◌, ◌++◌, length, get_or, take, drop, set, replicate, Some, None, Ok, Err, sym, refl, ap, ◌∙◌, subst, ap₂, add-one, arith, length-append, length-set}
 use Rattle.std.specs.List.{remove as removed}
 use Rattle.std.proofs.lemmas.Bool.{leb-true, ltb-true, le-leb, lt-leb, lt-ltb, le-ltb}
 use Rattle.std.proofs.lemmas.List.{set_split, get_or_at, get_or_append_left}
@@ -11,25 +11,25 @@ use Rattle.wire.specs.Octets.{Octets}
 use Rattle.wire.specs.Messages.{Header, Payload, first, payloads_bytes, front}
 use Rattle.wire.specs.Lawful.{LawfulPayload}
 use Rattle.wire.specs.Kinds.{code_of}
-use Rattle.wire.specs.Answers.{Answer, map_ok}
+use Rattle.wire.specs.Answers.{Answer}
 use Rattle.wire.proofs.Answers.{check_ok, and_then_ok, same_ok, found, refused}
 use Rattle.plain.specs.Drafts.{Held, standing, bytes_of}
 use Rattle.plain.specs.Offers.{asked, offering}
 use Rattle.plain.specs.Edits.{header_of, editing, Is}
 use Rattle.plain.specs.Edits.Edit.{replace, remove}
-use Rattle.plain.proofs.Joints.{lengths, lengths_append, lengths_one, front_append, front_long, naming_of}
+use Rattle.plain.proofs.Joints.{lengths, lengths_append, lengths_one, front_append, front_long}
 use Rattle.plain.proofs.Offers.{offered_is}
 use Rattle.plain.proofs.Keeping.{header_found}
 use Rattle.drafter.specs.declared.state.Core.{Core}
 use Rattle.drafter.specs.declared.spot.Spot.{Spot}
 use Rattle.drafter.specs.Spots.{size_at, spot_at}
 use Rattle.drafter.specs.Buffers.{spliced, Placed, TakenOut}
-use Rattle.drafter.specs.Cores.{header_size, plain_of, Shown}
+use Rattle.drafter.specs.Cores.{plain_of, Shown}
 use Rattle.drafter.specs.Edits.{Editable, size_in, asking, Accepted, Leaves}
-use Rattle.drafter.proofs.Spotting.{nothing, cut_at, spot_behind, same_front, size_there}
+use Rattle.drafter.proofs.Spotting.{nothing, cut_at, same_front, size_there}
 use Rattle.drafter.proofs.Showing.{ending}
 use Rattle.drafter.proofs.Located.{records, located}
-use Rattle.drafter.proofs.Imaging.{Lies, placed_lies, removed_lies, Turned, edit_leaves}
+use Rattle.drafter.proofs.Imaging.{Lies, placed_lies, removed_lies, edit_leaves}
 use Rattle.drafter.proofs.Opened.{counted_within, end_counted, open_used, front_lies, end_is, at_spot}
 
 -- payloads around the one at a position

@@ -1,5 +1,5 @@
 -- What moving a tail leaves in a buffer.
-use Rattle.std.proofs.Common.{◌≡◌, ℕ, ◌+◌, ◌-◌, ◌<◌, ◌≤◌, List, [], ◌∷◌, ◌++◌, length, get_or, take, drop, set, replicate, sym, refl, ap, ◌∙◌, ap₂, append_assoc, append-nil, arith, rules}
+use Rattle.std.proofs.Common.{◌≡◌, ℕ, ◌+◌, ◌-◌, ◌<◌, ◌≤◌, List, [], ◌∷◌, ◌++◌, length, take, drop, set, replicate, sym, ap, ◌∙◌, ap₂, append_assoc, append-nil, arith, rules}
 use Rattle.std.proofs.lemmas.List.{places, same_lists, get_or_default, length-take, length-drop, length-replicate, replicate-append-replicate, drop-drop, take-append-drop, take_rest, take_at, drop_at, drop_all, length-append, length-take-le}
 use Rattle.std.proofs.lemmas.Slice.{between_is, take-put_mid_below}
 use borrow.Rule.Slice.PartMut.{put_mid}

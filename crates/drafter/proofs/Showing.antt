@@ -1,20 +1,17 @@
 -- A draft in its buffer is one plain draft.
-use Rattle.std.proofs.Common.{◌≡◌, ℕ, ◌+◌, ◌-◌, ◌*◌, ◌/◌, ◌<◌, ◌≤◌, Bool, true, false, cond, eqb, ltb, List, [], ◌++◌, length, take, drop, replicate, Some, None, Option, sym, refl, ap, ◌∙◌, subst, ap₂, append_assoc, append-nil, arith, length-append, take_at, drop_at}
-use Rattle.std.specs.List.{AllByRecursion as All}
+use Rattle.std.proofs.Common.{◌≡◌, ℕ, ◌+◌, ◌-◌, ◌*◌, ◌/◌, true, false, eqb, ltb, List, [], ◌++◌, length, take, drop, replicate, Some, None, Option, sym, refl, ap, ◌∙◌, subst, ap₂, append_assoc, append-nil, arith, length-append, take_at, drop_at}
 use Rattle.std.proofs.lemmas.Bool.{lt-ltb, le-ltb, ne_eqb}
 use Rattle.std.proofs.lemmas.List.{drop-drop, nil_from_length}
-use Rattle.wire.specs.Octets.{in_bytes, value_at}
-use Rattle.wire.specs.Messages.{Header, Payload, first, header_bytes, payloads_bytes, front, sign_length, sign_body, encode}
-use Rattle.wire.specs.Lawful.{LawfulPayload, LawfulSign}
+use Rattle.wire.specs.Octets.{value_at}
+use Rattle.wire.specs.Messages.{Header, Payload, first, payloads_bytes, front, sign_body}
+use Rattle.wire.specs.Lawful.{LawfulSign}
 use Rattle.wire.specs.Walking.{header_of}
 use Rattle.wire.proofs.Numbers.{value_back, value_past}
 use Rattle.wire.proofs.Messages.{header_back}
-use Rattle.plain.specs.Drafts.{Held, Sign, Stage, Draft, signed_as, counted, bytes_of, standing, encoded, image}
+use Rattle.plain.specs.Drafts.{Held, Sign, Stage, Draft, counted, bytes_of, standing, encoded}
 use Rattle.plain.specs.Drafts.Stage.{opened, signing, faulty, released}
-use Rattle.plain.specs.Kept.{SignKept, Sound, Kept}
-use Rattle.plain.proofs.Joints.{front_long}
+use Rattle.plain.specs.Kept.{SignKept}
 use Rattle.drafter.specs.declared.state.Core.{Core}
-use Rattle.drafter.specs.declared.state.Phase.{Phase}
 use Rattle.drafter.specs.Spots.{payloads_from}
 use Rattle.drafter.specs.Cores.{phase_of, header_size, Shows, header_in, sign_in, stage_in, plain_of, Shown}
 use Rattle.drafter.proofs.Spotting.{same_front, spot_behind, payloads_there}

@@ -1,7 +1,7 @@
 -- What a signature is over, in the buffer.
-use Rattle.std.proofs.Common.{◌≡◌, ℕ, ◌+◌, ◌-◌, ◌<◌, ◌≤◌, List, [], ◌++◌, length, take, Some, None, Option, sym, refl, ap, ◌∙◌, subst, ap₂, append_assoc, arith, length-append, take_at}
+use Rattle.std.proofs.Common.{◌≡◌, ℕ, ◌+◌, ◌≤◌, List, [], ◌++◌, length, take, Some, None, Option, sym, refl, ap, ◌∙◌, append_assoc, arith, length-append, take_at}
 use Rattle.wire.specs.Messages.{Header, Payload, front, sign_length, span}
-use Rattle.plain.specs.Drafts.{Sign, signed_as, counted, bytes_of, standing, encoded, span_of, spanned}
+use Rattle.plain.specs.Drafts.{Sign, signed_as, bytes_of, standing, span_of, spanned}
 use Rattle.plain.specs.Kept.{SignKept}
 use Rattle.drafter.specs.declared.state.Core.{Core}
 use Rattle.drafter.specs.Cores.{plain_of, Shown}

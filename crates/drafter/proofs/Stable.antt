@@ -1,13 +1,13 @@
 -- A fact of a draft that was put away without its proof is a fact: each part of it can be tested.
-use Rattle.std.proofs.Common.{◌≡◌, ℕ, Bool, true, false, ltb, List, [], ◌∷◌, ◌++◌, length, Some, None, Ok, Err, Option, sym, refl, ap, subst, append-nil}
+use Rattle.std.proofs.Common.{◌≡◌, ℕ, Bool, true, false, ltb, List, [], ◌∷◌, Some, None, Ok, Err, Option, refl, ap, subst, append-nil}
 use mathlib.Core.Logic.{∥∥₁_elim, ∥∥₁_map}
 use denote.Struct.Props.{props}
 use Rattle.std.specs.List.{AllByRecursion as All}
 use Rattle.wire.specs.declared.kind.Kind.{Kind}
 use Rattle.wire.specs.Octets.{Octets}
 use Rattle.wire.specs.Messages.{Header, Payload}
-use Rattle.wire.specs.Layouts.{Body, Map, Sessions}
-use Rattle.wire.specs.Lawful.{LawfulHeader, LawfulPayload, LawfulSign}
+use Rattle.wire.specs.Layouts.{Body, Map}
+use Rattle.wire.specs.Lawful.{LawfulPayload}
 use Rattle.wire.specs.Answers.{Answer}
 use Rattle.wire.specs.Walking.{sessions}
 use Rattle.wire.proofs.Answers.{never_ok, same_ok}
@@ -15,11 +15,11 @@ use Rattle.wire.proofs.Layouts.{body_whole, body_drawn}
 use Rattle.wire.proofs.Sessions.{sessions_there, sessions_back}
 use Rattle.wire.proofs.Messages.{map_fits_lem, map_sessions, map_drawn}
 use Rattle.plain.specs.Drafts.{Sign, standing}
-use Rattle.plain.specs.Kept.{HeaderKept, SignKept, Sound, Kept}
+use Rattle.plain.specs.Kept.{HeaderKept, SignKept}
 use Rattle.drafter.specs.declared.state.Core.{Core}
 use Rattle.drafter.specs.declared.state.Phase.{Phase}
 use Rattle.drafter.specs.declared.state.Phase.TheVariants as phase
-use Rattle.drafter.specs.Cores.{phase_of, Shows, sign_in, stage_in, plain_of, Shown}
+use Rattle.drafter.specs.Cores.{phase_of, sign_in, stage_in, plain_of, Shown}
 
 all_stable : {A : Type 0} (P : A → Type 0) → ((x : A) → ∥ P x ∥₁ → P x) → (xs : List A) → ∥ All P xs ∥₁ → All P xs
 all_stable P s [] t = tt

@@ -1,31 +1,28 @@
 -- SIGN that is set in the buffer, written and taken off.
-use Rattle.std.proofs.Common.{◌≡◌, ℕ, ◌+◌, ◌-◌, ◌*◌, ◌<◌, ◌≤◌, true, ◌&&◌, ltb, leb, List, [], ◌∷◌, ◌++◌, length, take, drop, set, replicate, Some, None, Option, sym, refl, ap, ◌∙◌, subst, ap₂, append_assoc, arith, length-append, take_at, drop_at}
+use Rattle.std.proofs.Common.{◌≡◌, ℕ, ◌+◌, ◌-◌, ◌*◌, ◌<◌, ◌≤◌, ltb, leb, List, ◌++◌, length, take, drop, set, replicate, Some, None, Option, sym, ap, ◌∙◌, subst, ap₂, append_assoc, arith, length-append, take_at, drop_at}
 use lib.ListN.{length-replicate}
-use Rattle.std.specs.List.{AllByRecursion as All}
 use Rattle.std.proofs.lemmas.Bool.{le-leb, and_from}
 use Rattle.std.proofs.lemmas.List.{take_all, drop-drop, set-append_left, replicate-append-replicate}
-use Rattle.wire.specs.Octets.{Octets, in_bytes}
+use Rattle.wire.specs.Octets.{in_bytes}
 use Rattle.wire.specs.Messages.{Header, Payload, front, sign_length, sign_body, encode}
 use Rattle.wire.specs.Lawful.{LawfulSign}
-use Rattle.plain.specs.Drafts.{Held, Sign, Stage, Draft, signed_as, counted, bytes_of, standing, encoded}
-use Rattle.plain.specs.Drafts.Stage.{opened, signing, faulty, released}
+use Rattle.plain.specs.Drafts.{Sign, Stage, signed_as, counted, bytes_of, standing, encoded}
+use Rattle.plain.specs.Drafts.Stage.{opened, signing}
 use Rattle.plain.specs.Steps.{unsigned}
-use Rattle.plain.specs.Kept.{SignKept, Sound, Kept}
-use Rattle.plain.proofs.Joints.{front_long, naming_of, naming_within, renamed}
+use Rattle.plain.specs.Kept.{SignKept, Kept}
+use Rattle.plain.proofs.Joints.{naming_of, naming_within, renamed}
 use Rattle.plain.proofs.Keeping.{unsigned_lawful, open_kept}
 use Rattle.drafter.specs.declared.state.Core.{Core}
 use Rattle.drafter.specs.declared.state.Phase.TheVariants as phase
 use Rattle.drafter.specs.declared.spot.Spot.{Spot}
 use Rattle.drafter.specs.Spots.{spot_at}
 use Rattle.drafter.specs.Buffers.{laid}
-use Rattle.drafter.specs.Cores.{phase_of, header_size, Shows, sign_in, stage_in, plain_of, Shown}
-use Rattle.drafter.specs.Edits.{Editable}
+use Rattle.drafter.specs.Cores.{phase_of, header_size, sign_in, stage_in, plain_of, Shown}
 use Rattle.drafter.specs.Signs.{Signed, At}
 use Rattle.drafter.proofs.Spotting.{same_front}
 use Rattle.drafter.proofs.Asking.{with_header}
 use Rattle.drafter.proofs.Located.{located}
-use Rattle.drafter.proofs.Imaging.{Lies, Turned, turned_becomes}
-use Rattle.drafter.proofs.Opened.{counted_within, end_counted, open_lies, front_lies, end_is, at_spot}
+use Rattle.drafter.proofs.Imaging.{Lies, turned_becomes}
 
 -- bytes over zeros
 zeros_over : (m k : ℕ) (past : List ℕ) → m ≤ k → drop m (replicate k 0 ++ past) ≡ replicate (k - m) 0 ++ past

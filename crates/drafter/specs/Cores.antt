@@ -1,7 +1,7 @@
 -- The plain draft that a draft in its buffer is.
 use Rattle.std.specs.Prelude.{◌≡◌, ℕ, ◌+◌, ◌-◌, ◌/◌, Bool, true, false, cond, List, length, take, drop, Some, None, Option, ◌==◌, nat_lt}
 use Rattle.wire.specs.Octets.{value_at}
-use Rattle.wire.specs.Messages.{Header, Payload}
+use Rattle.wire.specs.Messages.{Header}
 use Rattle.wire.specs.Walking.{header_of}
 use Rattle.plain.specs.Drafts.{Sign, Stage, Draft, counted, bytes_of, encoded, image}
 use Rattle.plain.specs.Drafts.Stage.{opened, signing, faulty, released}

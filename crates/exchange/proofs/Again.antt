@@ -7,18 +7,15 @@ use Rattle.std.proofs.lemmas.List.{drop_all, take_all, replicate_more}
 use Rattle.wire.specs.Kinds.{code_of}
 use Rattle.wire.specs.Messages.{Header, Payload, Message, front, sign_body, encode}
 use Rattle.wire.specs.Lawful.{Lawful, LawfulHeader, LawfulPayload}
-use Rattle.wire.specs.Rows.{rows}
 use Rattle.wire.proofs.Messages.{pieces_count}
 use Rattle.profile.specs.Tables.{Tables}
 use Rattle.profile.specs.Admits.{Admits}
-use Rattle.profile.specs.Admitting.{admitting}
 use Rattle.profile.proofs.Admitted.{admitted_passes}
 use Rattle.reader.proofs.Promises.{good_read}
 use Rattle.plain.specs.declared.calls.Reply.{Reply}
 use Rattle.plain.specs.declared.calls.Reply.TheVariants.{Done, Delivered}
-use Rattle.plain.specs.Drafts.{Held, Sign, Draft, begin, signed_as, bytes_of, counted, encoded, image}
+use Rattle.plain.specs.Drafts.{Held, Sign, Draft, begin, signed_as, bytes_of, counted, image}
 use Rattle.plain.specs.Drafts.Stage.{opened, signing}
-use Rattle.plain.specs.Offers.{offering, mapping}
 use Rattle.plain.specs.Edits.{Edit, fitting, editing}
 use Rattle.plain.specs.Edits.Edit.{head, add}
 use Rattle.plain.specs.Steps.{Step, sign_fits, unsigned, closing, closed, edited, signed, step, replies, ends}

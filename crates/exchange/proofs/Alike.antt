@@ -1,8 +1,8 @@
 -- Messages that differ in the signature's bytes alone are admitted alike.
-use Rattle.std.proofs.Common.{◌≡◌, ℕ, ◌+◌, ◌*◌, ◌/◌, List, [], ◌∷◌, ◌++◌, length, refl, ap, subst, ap₂}
+use Rattle.std.proofs.Common.{◌≡◌, ◌+◌, ◌*◌, ◌/◌, List, [], ◌∷◌, ◌++◌, length, refl, ap, subst, ap₂}
 use Rattle.std.specs.List.{AllByRecursion as All}
 use Rattle.wire.specs.declared.kind.Kind.TheVariants.{Sign as SignKind}
-use Rattle.wire.specs.Messages.{Header, Payload, Message, sign_body, pieces}
+use Rattle.wire.specs.Messages.{Header, Payload, sign_body}
 use Rattle.wire.specs.Rows.{slot}
 use Rattle.profile.specs.Tables.{Tables}
 use Rattle.profile.specs.Fields.{fields, field}

@@ -1,5 +1,5 @@
 -- What is read is exactly what encodes a good message.
-use Rattle.std.proofs.Common.{ℕ, length, sym, ◌∙◌, subst}
+use Rattle.std.proofs.Common.{length, sym, ◌∙◌, subst}
 use Rattle.wire.specs.Messages.{pieces}
 use Rattle.wire.specs.Rows.{rows, header_length, Tile, MarksOff}
 use Rattle.wire.proofs.Messages.{told_apart}

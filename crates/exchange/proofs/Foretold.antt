@@ -1,5 +1,5 @@
 -- What a close refuses of a message is what read would refuse of it.
-use Rattle.std.proofs.Common.{◌≡◌, ℕ, ◌≤◌, Bool, true, false, leb, List, length, Some, None, Ok, Err, Option, sym, refl, ap, ◌∙◌, subst, arith}
+use Rattle.std.proofs.Common.{◌≡◌, ℕ, ◌≤◌, Bool, true, false, leb, length, Some, None, Ok, Err, Option, sym, refl, ap, ◌∙◌, subst, arith}
 use Rattle.std.proofs.lemmas.Bool.{leb-true}
 use Rattle.wire.specs.declared.refusal.Refusal.{Refusal}
 use Rattle.wire.specs.declared.refusal.Refusal.TheVariants.{NoHeader, NoRoom, SignForm}
@@ -15,7 +15,7 @@ use Rattle.verifier.specs.Signed.{Signed}
 use Rattle.plain.specs.Drafts.{Held, Stage, Draft, begin, signed_as, counted}
 use Rattle.plain.specs.Drafts.Stage.{opened, signing, faulty, released}
 use Rattle.plain.specs.Edits.{header_of}
-use Rattle.plain.specs.Steps.{sign_fits, unsigned, closing, closed, taken, step}
+use Rattle.plain.specs.Steps.{sign_fits, unsigned, closing, closed, taken}
 use Rattle.plain.specs.Steps.Step.{close}
 use Rattle.plain.specs.Kept.{HeaderKept, Sound}
 use Rattle.plain.proofs.Keeping.{unsigned_lawful}

@@ -1,34 +1,33 @@
 -- What a draft holds along a run, and so what is delivered.
-use Rattle.std.proofs.Common.{◌≡◌, ℕ, ◌≤◌, min, Bool, true, false, eqb, leb, List, [], ◌∷◌, ◌++◌, length, take, Some, None, Ok, Err, Option, sym, refl, ap, ◌∙◌, subst, ap₂, arith, take_at, drop_at}
+use Rattle.std.proofs.Common.{◌≡◌, ℕ, ◌≤◌, Bool, true, false, eqb, leb, List, [], ◌∷◌, length, Some, None, Ok, Err, Option, sym, refl, ap, ◌∙◌, subst, ap₂, arith, take_at, drop_at}
 use Rattle.std.specs.List.{AllByRecursion as All}
 use Rattle.std.proofs.lemmas.Bool.{eqb-true}
 use Rattle.std.proofs.ByRecursion.{All-take, All-drop}
-use Rattle.wire.specs.declared.refusal.Refusal.TheVariants.{NotPassed, SignatureLength}
-use Rattle.wire.specs.Messages.{Header, Payload, Message, encode, span}
-use Rattle.wire.specs.Lawful.{Lawful, LawfulSign}
+use Rattle.wire.specs.Messages.{Header, Message, encode}
+use Rattle.wire.specs.Lawful.{Lawful}
 use Rattle.wire.specs.Rows.{rows}
 use Rattle.wire.specs.Answers.{Answer}
 use Rattle.wire.specs.Walking.{walking}
-use Rattle.wire.proofs.Answers.{check_ok, and_then_ok, same_ok, never_ok}
+use Rattle.wire.proofs.Answers.{check_ok, and_then_ok, same_ok}
 use Rattle.wire.proofs.Messages.{read_back, pieces_count}
 use Rattle.profile.specs.Tables.{Tables}
 use Rattle.profile.specs.Admits.{Admits}
 use Rattle.profile.specs.Admitting.{admitting}
-use Rattle.profile.proofs.Admitted.{admits_passed, admitted_passes}
-use Rattle.verifier.specs.Signed.{Signed, signed_in}
+use Rattle.profile.proofs.Admitted.{admits_passed}
+use Rattle.verifier.specs.Signed.{signed_in}
 use Rattle.reader.proofs.Promises.{read_good, passed_all}
 use Rattle.plain.specs.declared.calls.Reply.{Reply}
 use Rattle.plain.specs.declared.calls.Reply.TheVariants.{Done, Delivered, Released, Refused, Misplaced}
-use Rattle.plain.specs.Drafts.{Held, Sign, Stage, Draft, begin, signed_as, counted, bytes_of, standing, encoded, image}
+use Rattle.plain.specs.Drafts.{Held, Sign, Stage, Draft, begin, signed_as, counted, bytes_of, standing, encoded}
 use Rattle.plain.specs.Drafts.Stage.{opened, signing, faulty, released}
 use Rattle.plain.specs.Edits.{header_of, editing}
 use Rattle.plain.specs.Steps.{Step, Turn, sign_fits, unsigned, closing, closed, edited, signed, taken, step, ends}
 use Rattle.plain.specs.Steps.Step.{edit, close, sign, withdraw, release}
 use Rattle.plain.specs.Turns.{Refusing}
-use Rattle.plain.specs.Kept.{HeaderKept, SignKept, Sound, Kept, Widths}
-use Rattle.plain.proofs.Keeping.{header_found, unsigned_lawful, step_kept, begin_kept}
+use Rattle.plain.specs.Kept.{HeaderKept, SignKept, Kept, Widths}
+use Rattle.plain.proofs.Keeping.{header_found, step_kept, begin_kept}
 use Rattle.exchange.specs.Runs.{end_of, force, in_force}
-use Rattle.exchange.specs.Promise.{Holds, Delivery, Delivering, DeliversWhatItHolds}
+use Rattle.exchange.specs.Promise.{Delivery, Delivering, DeliversWhatItHolds}
 use Rattle.exchange.proofs.Alike.{admits_alike}
 
 -- the message of a draft where SIGN stands is lawful

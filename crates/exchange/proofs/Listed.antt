@@ -1,8 +1,8 @@
 -- The calls that draft a message, from its bytes and its rows.
-use Rattle.std.proofs.Common.{◌≡◌, ℕ, zero, suc, ◌+◌, ◌-◌, ◌*◌, ◌/◌, ◌<◌, ◌≤◌, false, List, [], ◌∷◌, ◌++◌, length, get_or, take, drop, set, replicate, sym, refl, ap, ◌∙◌, subst, ap₂, append_assoc, arith, length-append, drop-drop, take_at, drop_at}
+use Rattle.std.proofs.Common.{◌≡◌, ℕ, zero, suc, ◌+◌, ◌-◌, ◌*◌, ◌/◌, ◌<◌, ◌≤◌, List, [], ◌∷◌, ◌++◌, length, get_or, take, drop, replicate, sym, refl, ap, ◌∙◌, subst, ap₂, append_assoc, arith, length-append, drop-drop, drop_at}
 use lib.Seq.{get_or_at}
 use Rattle.std.specs.List.{AllByRecursion as All}
-use Rattle.std.proofs.lemmas.List.{take_more, take_more_set, map_push, drop-take, take_all, take_rest, length-set, get_or_append_left, get_or-append-add}
+use Rattle.std.proofs.lemmas.List.{drop-take, take_rest, get_or_append_left, get_or-append-add}
 use Rattle.wire.specs.declared.kind.Kind.TheVariants.{Sign}
 use Rattle.wire.specs.declared.row.Row.{Row}
 use Rattle.wire.specs.declared.row.Walked.{Walked}
@@ -18,14 +18,11 @@ use Rattle.walk.specs.Walks.{Told}
 use Rattle.profile.specs.Tables.{Tables}
 use Rattle.profile.specs.Admits.{Admits}
 use Rattle.reader.proofs.Good.{bytes_one, part_inside, split}
-use Rattle.plain.specs.declared.calls.Head.{Head}
-use Rattle.plain.specs.declared.calls.Call.{Call}
-use Rattle.plain.specs.declared.calls.Call.TheVariants as call
 use Rattle.plain.specs.Edits.Edit.{head, add}
-use Rattle.plain.specs.Steps.{Step, headed, called}
+use Rattle.plain.specs.Steps.{Step}
 use Rattle.plain.specs.Steps.Step.{edit, close, sign}
-use Rattle.exchange.specs.Runs.{steps_of, adds, drafting}
-use Rattle.exchange.specs.Redrafts.{Tells, HeaderIn, Drafts}
+use Rattle.exchange.specs.Runs.{adds, drafting}
+use Rattle.exchange.specs.Redrafts.{Tells, HeaderIn}
 
 adds_long : (i : ℕ) (ps : List Payload) → length (adds i ps) ≡ length ps
 unfolding adds

@@ -1,7 +1,7 @@
 -- The whole promise, and what an exchange keeps of it.
 use Rattle.std.proofs.Common.{ℕ, ◌-◌, ◌≤◌, List, ◌++◌, length, drop, replicate, ap, arith, length-append}
 use Rattle.plain.specs.declared.calls.Reply.{Reply}
-use Rattle.plain.specs.Drafts.{Draft, begin, counted, encoded, image}
+use Rattle.plain.specs.Drafts.{Draft, begin, counted, encoded}
 use Rattle.plain.specs.Steps.{Step}
 use Rattle.plain.proofs.Turning.{step_still, step_does, image_long, image_past}
 use Rattle.exchange.specs.Runs.{end_of, Runs}

@@ -1,5 +1,5 @@
 -- Runs of calls on a draft.
-use Rattle.std.specs.Prelude.{◌≡◌, ℕ, suc, ◌+◌, List, [], ◌∷◌, ◌++◌, map, length, take, drop, replicate, Some, None, Option}
+use Rattle.std.specs.Prelude.{◌≡◌, ℕ, suc, ◌+◌, List, [], ◌∷◌, ◌++◌, map, length, drop, replicate, Some, None, Option}
 use Rattle.wire.specs.Kinds.{code_of}
 use Rattle.wire.specs.Messages.{Payload, Message}
 use Rattle.profile.specs.Tables.{Tables}

@@ -1,5 +1,5 @@
 -- The encoding of payloads on both sides of a position, and the byte that names what follows.
-use Rattle.std.proofs.Common.{◌≡◌, ℕ, ◌+◌, ◌<◌, List, [], ◌∷◌, ◌++◌, length, get_or, set, sym, refl, ap, ◌∙◌, subst, ap₂, append_assoc, arith, length-append}
+use Rattle.std.proofs.Common.{◌≡◌, ℕ, ◌+◌, ◌<◌, List, [], ◌∷◌, ◌++◌, length, get_or, set, sym, refl, ap, ◌∙◌, ap₂, append_assoc, arith, length-append}
 use Rattle.std.proofs.lemmas.List.{set_at, get_or-set_same}
 use Rattle.wire.specs.Kinds.{code_of}
 use Rattle.wire.specs.Messages.{Header, Payload, first, header_bytes, payloads_bytes, front}

@@ -1,11 +1,10 @@
 -- Every call keeps the records lawful and within the counted bytes.
-use Rattle.std.proofs.Common.{◌≡◌, ℕ, zero, suc, ◌+◌, ◌<◌, ◌≤◌, Bool, true, false, ◌&&◌, eqb, ltb, leb, List, [], ◌∷◌, ◌++◌, length, take, drop, set, replicate, Some, None, Ok, Err, Option, sym, refl, ap, ◌∙◌, subst, arith, length-set, take-append-drop}
+use Rattle.std.proofs.Common.{◌≡◌, ℕ, zero, suc, ◌<◌, ◌≤◌, Bool, true, false, eqb, ltb, leb, List, [], ◌∷◌, length, take, set, replicate, Some, None, Ok, Err, Option, sym, refl, ap, subst, arith, length-set}
 use lib.ListN.{length-replicate}
 use Rattle.std.specs.List.{insert, remove as removed, AllByRecursion as All}
 use Rattle.std.proofs.lemmas.Bool.{leb-true, ltb-true, eqb-true, and_parts}
 use Rattle.std.proofs.ByRecursion.{All-append, All-take, All-drop, All-set}
 use Rattle.std.proofs.lemmas.List.Edits.{length-insert, length-remove}
-use Rattle.std.proofs.lemmas.List.{drop-drop}
 use Rattle.wire.specs.Octets.{Octets}
 use Rattle.wire.specs.Messages.{Header, Payload, Message, encode}
 use Rattle.wire.specs.Lawful.{LawfulPayload, LawfulSign}
@@ -15,16 +14,16 @@ use Rattle.wire.proofs.Answers.{check_ok, and_then_ok, same_ok, never_ok}
 use Rattle.wire.proofs.Tiling.{encode_length}
 use Rattle.profile.specs.Tables.{Tables}
 use Rattle.profile.specs.Admitting.{admitting}
-use Rattle.plain.specs.Drafts.{Held, Sign, Stage, Draft, begin, signed_as, bytes_of, standing, encoded}
+use Rattle.plain.specs.Drafts.{Held, Sign, Stage, Draft, begin, signed_as, bytes_of, standing}
 use Rattle.plain.specs.Drafts.Stage.{opened, signing, faulty, released}
 use Rattle.plain.specs.Offers.{offering, mapping}
 use Rattle.plain.specs.Edits.{Edit, header_of, fitting, editing}
 use Rattle.plain.specs.Edits.Edit.{head, add, replace, remove}
-use Rattle.plain.specs.Steps.{Step, Turn, sign_fits, unsigned, closing, closed, edited, signed, taken, step, ends}
+use Rattle.plain.specs.Steps.{Step, sign_fits, unsigned, closing, closed, edited, signed, taken, step}
 use Rattle.plain.specs.Steps.Step.{edit, close, sign, withdraw, release}
 use Rattle.plain.specs.Kept.{HeaderKept, SignKept, Sound, Kept, EditWidths, Widths}
 use Rattle.plain.proofs.Offers.{map_lawful, offered_lawful}
-use Rattle.plain.proofs.Joints.{lengths, lengths_append, front_long}
+use Rattle.plain.proofs.Joints.{lengths, front_long}
 
 pub header_found : (o : Option Header) (h : Header) → header_of o ≡ Ok h → o ≡ Some h
 header_found None h e = absurd (never_ok _ h e)

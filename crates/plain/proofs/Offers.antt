@@ -6,7 +6,7 @@ use Rattle.wire.specs.declared.kind.Kind.{Kind}
 use Rattle.wire.specs.declared.refusal.Refusal.TheVariants.{UnknownCode}
 use Rattle.wire.specs.Octets.{Octets}
 use Rattle.wire.specs.Kinds.{code_of, kind_of, is_sign}
-use Rattle.wire.specs.Messages.{Payload, Header}
+use Rattle.wire.specs.Messages.{Payload}
 use Rattle.wire.specs.Layouts.{Map, Body, Sessions}
 use Rattle.wire.specs.Lawful.{LawfulPayload}
 use Rattle.wire.specs.Answers.{Answer}

@@ -1,6 +1,5 @@
 -- What one call on a draft does, in the words of its records and its buffer.
 use Rattle.std.specs.Prelude.{◌≡◌, ℕ, List, length, drop, Ok, Err}
-use Rattle.wire.specs.declared.refusal.Refusal.{Refusal}
 use Rattle.wire.specs.Answers.{Answer}
 use Rattle.plain.specs.declared.calls.Reply.{Reply}
 use Rattle.plain.specs.declared.calls.Reply.TheVariants.{Done, Delivered, Released, Refused, Misplaced}

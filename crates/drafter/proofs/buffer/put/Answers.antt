@@ -1,4 +1,3 @@
-use Rattle.std.proofs.Common.{◌∙◌, arith, rules}
 use Rattle.drafter.proofs.Resizing.{put_over}
 use Rattle.drafter.proofs.buffer.put.Goals as goal
 

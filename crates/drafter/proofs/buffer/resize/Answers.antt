@@ -1,4 +1,3 @@
-use Rattle.std.proofs.Common.{arith}
 use Rattle.drafter.proofs.Resizing.{raised, lowered}
 use Rattle.drafter.proofs.buffer.resize.Goals as goal
 

@@ -1,4 +1,4 @@
-use Rattle.std.proofs.Common.{length, drop, ◌∙◌, arith, length-append, length-drop}
+use Rattle.std.proofs.Common.{drop, ◌∙◌, arith, length-append, length-drop}
 use Rattle.drafter.proofs.Resizing.{two_parts}
 use Rattle.drafter.proofs.buffer.write_header.Goals as goal
 

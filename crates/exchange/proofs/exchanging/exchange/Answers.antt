@@ -1,6 +1,4 @@
-use Rattle.std.proofs.Common.{◌≡◌, ◌-◌, take, subst, arith}
-use Rattle.reader.specs.Reads.{Reads}
-use Rattle.exchange.specs.Redrafts.{Redrafts}
+use Rattle.std.proofs.Common.{◌≡◌, ◌-◌, arith}
 use Rattle.exchange.proofs.Promised.{promise, within}
 use Rattle.exchange.proofs.exchanging.exchange.Goals as goal
 

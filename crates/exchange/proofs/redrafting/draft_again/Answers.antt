@@ -1,4 +1,4 @@
-use Rattle.std.proofs.Common.{◌≡◌, ◌+◌, ◌-◌, sym, refl, ap, ◌∙◌, subst, arith}
+use Rattle.std.proofs.Common.{◌≡◌, ◌+◌, sym, refl, ◌∙◌, subst, arith}
 use Rattle.wire.specs.Rows.{blank}
 use Rattle.plain.specs.Steps.{headed}
 use Rattle.drafter.specs.Views.{plain, bytes, plain_out, bytes_out}

@@ -1,5 +1,5 @@
 use Rattle.std.proofs.Common.{length, sym, refl, ap, ◌∙◌, subst, arith}
-use Rattle.plain.specs.Drafts.{begin, image}
+use Rattle.plain.specs.Drafts.{image}
 use Rattle.plain.specs.Steps.{called}
 use Rattle.drafter.specs.Views.{plain_draft, bytes_draft}
 use Rattle.exchange.specs.Runs.{steps_of, Runs}

@@ -1,4 +1,4 @@
-use Rattle.std.proofs.Common.{◌≡◌, ◌-◌, ap, ◌∙◌, subst, arith}
+use Rattle.std.proofs.Common.{◌≡◌, ◌-◌, subst, arith}
 use Rattle.std.specs.List.{AllByRecursion as All}
 use Rattle.plain.specs.Kept.{Widths}
 use Rattle.exchange.specs.Runs.{steps_of}

@@ -1,4 +1,4 @@
-use Rattle.std.proofs.Common.{◌+◌, ◌≤◌, length}
+use Rattle.std.proofs.Common.{◌+◌, ◌≤◌}
 use Rattle.verdict.proofs.trust.enter_all.Given as goal
 
 abbrev pub invariant-loop-i : goal.invariant-loop-i

@@ -1,7 +1,6 @@
 use Rattle.std.proofs.Common.{Err, ap, ◌∙◌, arith}
 use Rattle.std.proofs.lemmas.Result.{err_from_is_err_and}
 use Rattle.plain.specs.Steps.{headed}
-use Rattle.drafter.proofs.Opened.{end_counted}
 use Rattle.drafter.proofs.Heading.{header_within, head_refused, head_cramped, head_accepted}
 use Rattle.drafter.proofs.state.Core.ask_head.Goals as goal
 use Rattle.drafter.proofs.state.Core.ask_head.Goals.{then-room-lt10-via-then-room-lt10, then-room-lt10-via-else-room-lt10+then-head-room}

@@ -1,4 +1,4 @@
-use Rattle.std.proofs.Common.{ap, ◌∙◌}
+use Rattle.std.proofs.Common.{ap}
 use Rattle.plain.specs.Edits.Edit.{head, add, replace, remove}
 use Rattle.plain.specs.Steps.{headed, called}
 use Rattle.drafter.proofs.Calling.{edit_answers, edit_follows}

@@ -1,7 +1,7 @@
 use Rattle.std.proofs.Common.{refl, arith}
 use Rattle.drafter.proofs.Located.{header_some}
 use Rattle.drafter.proofs.Opened.{counted_within, end_counted, naming_there}
-use Rattle.drafter.proofs.Replacing.{Replacement, replacement, size_within, spot_room, next_names, changed_leaves}
+use Rattle.drafter.proofs.Replacing.{replacement, size_within, spot_room, next_names, changed_leaves}
 use Rattle.drafter.proofs.state.Core.change.Goals as goal
 
 pub size-old-requires : goal.size-old-requires

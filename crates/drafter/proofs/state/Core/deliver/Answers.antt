@@ -1,4 +1,4 @@
-use Rattle.std.proofs.Common.{refl, arith, length-drop, length-take}
+use Rattle.std.proofs.Common.{refl, arith}
 use Rattle.drafter.proofs.Standing.{signed_long, full_within}
 use Rattle.drafter.proofs.Delivering.{other_reply, other_follows, right_reply, right_follows}
 use Rattle.drafter.proofs.state.Core.deliver.Goals as goal

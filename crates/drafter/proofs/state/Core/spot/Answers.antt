@@ -1,4 +1,4 @@
-use Rattle.std.proofs.Common.{◌≡◌, ◌-◌, length, take, ap, ◌∙◌, arith}
+use Rattle.std.proofs.Common.{◌≡◌, ◌-◌, take, ap, ◌∙◌, arith}
 use Rattle.drafter.specs.Spots.{spot_at}
 use Rattle.drafter.proofs.Asking.{with_header}
 use Rattle.drafter.proofs.Located.{located_within, records_few}
