@@ -1,6 +1,6 @@
 -- Messages tried by hand, as a table.
 use Rattle.std.specs.Prelude.{◌≡◌, ℕ, List, [], ◌∷◌, ◌++◌, Ok, Err}
-use Rattle.std.specs.List.{AllByRecursion as All}
+use Rattle.std.specs.List.{AllByRecursion}
 use Rattle.wire.specs.declared.row.Row.{Row}
 use Rattle.wire.specs.declared.row.Walked.{Walked}
 use Rattle.wire.specs.Refusals.{told}
@@ -53,4 +53,4 @@ cases =
     ∷ []
 
 abbrev pub Tried : Type 0
-Tried = All Agrees cases
+Tried = AllByRecursion Agrees cases

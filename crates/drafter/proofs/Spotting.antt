@@ -1,6 +1,6 @@
 -- The spots of a draft's payloads, one after the other.
 use Rattle.std.proofs.Common.{◌≡◌, ℕ, zero, suc, ◌+◌, ◌<◌, ◌≤◌, List, [], ◌∷◌, ◌++◌, length, get_or, take, drop, sym, refl, ap, ◌∙◌, subst, ap₂, append_assoc, add-one, arith, length-append, take-append-drop, take_at, drop_at}
-use Rattle.std.specs.List.{AllByRecursion as All}
+use Rattle.std.specs.List.{AllByRecursion}
 use Rattle.std.proofs.lemmas.List.{get_or_append_left, take_more, drop_more}
 use Rattle.std.proofs.ByRecursion.{All-get_or}
 use Rattle.wire.specs.declared.kind.Kind.TheVariants.{T}
@@ -76,7 +76,7 @@ module _ (c : ℕ) (h : Header) (ps : List Payload) (p : Payload) (qs : List Pay
       ap₂ (λ n a. record { naming = n; at = a }) (sym (naming_next 0 h ps p)) at
 
 -- the payloads behind others are those that were encoded
-pub payloads_there : (c : ℕ) (h : Header) (ps qs : List Payload) → All LawfulPayload qs → payloads_from (length qs) (spot_behind h ps) (front c h (ps ++ qs)) ≡ qs
+pub payloads_there : (c : ℕ) (h : Header) (ps qs : List Payload) → AllByRecursion LawfulPayload qs → payloads_from (length qs) (spot_behind h ps) (front c h (ps ++ qs)) ≡ qs
 unfolding payloads_from
 payloads_there c h ps [] l = refl
 payloads_there c h ps (q ∷ qs) l =
@@ -93,7 +93,7 @@ nothing = record { kind = T; body = [] }
 pub cut_at : (ps : List Payload) (i : ℕ) → i < length ps → ps ≡ take i ps ++ (get_or ps i nothing ∷ drop (i + 1) ps)
 cut_at ps i h = sym (take-append-drop i ps) ∙ ap (λ x. take i ps ++ x) (drop_more ps i nothing h)
 
-pub spot_there : (c : ℕ) (h : Header) (ps : List Payload) (i : ℕ) → All LawfulPayload ps → i ≤ length ps
+pub spot_there : (c : ℕ) (h : Header) (ps : List Payload) (i : ℕ) → AllByRecursion LawfulPayload ps → i ≤ length ps
     → spot_at (10 + length h.map_info) i (front c h ps) ≡ spot_behind h (take i ps)
 unfolding spot_at
 spot_there c h ps zero l n = ap (λ a. record { naming = 2; at = a }) (omega (arith, length-append h.map_info []))

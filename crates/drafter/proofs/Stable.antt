@@ -2,7 +2,7 @@
 use Rattle.std.proofs.Common.{◌≡◌, ℕ, Bool, true, false, ltb, List, [], ◌∷◌, Some, None, Ok, Err, Option, refl, ap, subst, append-nil}
 use mathlib.Core.Logic.{∥∥₁_elim, ∥∥₁_map}
 use denote.Struct.Props.{props}
-use Rattle.std.specs.List.{AllByRecursion as All}
+use Rattle.std.specs.List.{AllByRecursion}
 use Rattle.wire.specs.declared.kind.Kind.{Kind}
 use Rattle.wire.specs.Octets.{Octets}
 use Rattle.wire.specs.Messages.{Header, Payload}
@@ -21,7 +21,7 @@ use Rattle.drafter.specs.declared.state.Phase.{Phase}
 use Rattle.drafter.specs.declared.state.Phase.TheVariants as phase
 use Rattle.drafter.specs.Cores.{phase_of, sign_in, stage_in, plain_of, Shown}
 
-all_stable : {A : Type 0} (P : A → Type 0) → ((x : A) → ∥ P x ∥₁ → P x) → (xs : List A) → ∥ All P xs ∥₁ → All P xs
+all_stable : {A : Type 0} (P : A → Type 0) → ((x : A) → ∥ P x ∥₁ → P x) → (xs : List A) → ∥ AllByRecursion P xs ∥₁ → AllByRecursion P xs
 all_stable P s [] t = tt
 all_stable P s (x ∷ xs) t = (s x (∥∥₁_map t (λ a. a.0)), all_stable P s xs (∥∥₁_map t (λ a. a.1)))
 

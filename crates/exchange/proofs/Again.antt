@@ -1,7 +1,7 @@
 -- Every message that is read is drafted again from its own records.
 use Rattle.std.proofs.Common.{◌≡◌, ℕ, suc, ◌+◌, ◌<◌, ◌≤◌, true, eqb, ltb, leb, List, [], ◌∷◌, ◌++◌, length, take, replicate, Some, None, Ok, sym, refl, ap, ◌∙◌, subst, append_assoc, append-nil, arith, length-append, take_at}
 use lib.ListN.{length-replicate}
-use Rattle.std.specs.List.{insert, AllByRecursion as All}
+use Rattle.std.specs.List.{insert, AllByRecursion}
 use Rattle.std.proofs.lemmas.Bool.{le-leb, lt-ltb, eq-eqb}
 use Rattle.std.proofs.lemmas.List.{drop_all, take_all, replicate_more}
 use Rattle.wire.specs.Kinds.{code_of}
@@ -67,7 +67,7 @@ edit_run room d d' x a cs rs e r = record {
   last = ap (λ y. ends room (edited d y).draft cs) a ∙ r.last;
 }
 
-adds_run : (room : ℕ) (h : Header) (ps qs : List Payload) (i : ℕ) → i ≡ length qs → All LawfulPayload ps → length qs + length ps < 24
+adds_run : (room : ℕ) (h : Header) (ps qs : List Payload) (i : ℕ) → i ≡ length qs → AllByRecursion LawfulPayload ps → length qs + length ps < 24
     → 10 + length h.map_info + lengths qs + lengths ps ≤ room → (cs : List Step) (rs : List Reply) (e : Draft) → Ran room (open_with h (qs ++ ps)) cs rs e
     → Ran room (open_with h qs) (adds i ps ++ cs) (replicate (length ps) Done ++ rs) e
 unfolding adds lengths

@@ -1,6 +1,6 @@
 -- Messages that differ in the signature's bytes alone are admitted alike.
 use Rattle.std.proofs.Common.{◌≡◌, ◌+◌, ◌*◌, ◌/◌, List, [], ◌∷◌, ◌++◌, length, refl, ap, subst, ap₂}
-use Rattle.std.specs.List.{AllByRecursion as All}
+use Rattle.std.specs.List.{AllByRecursion}
 use Rattle.wire.specs.declared.kind.Kind.TheVariants.{Sign as SignKind}
 use Rattle.wire.specs.Messages.{Header, Payload, sign_body}
 use Rattle.wire.specs.Rows.{slot}
@@ -12,7 +12,7 @@ use Rattle.plain.specs.Drafts.{Sign, signed_as}
 abbrev piece : Sign → Payload
 piece g = record { kind = SignKind; body = sign_body g.type g.signature }
 
-last_alike : (P : Payload → Type 0) (x y : Payload) → (P x → P y) → (ps : List Payload) → All P (ps ++ (x ∷ [])) → All P (ps ++ (y ∷ []))
+last_alike : (P : Payload → Type 0) (x y : Payload) → (P x → P y) → (ps : List Payload) → AllByRecursion P (ps ++ (x ∷ [])) → AllByRecursion P (ps ++ (y ∷ []))
 last_alike P x y f [] a = (f a.0, tt)
 last_alike P x y f (p ∷ ps) a = (a.0, last_alike P x y f ps a.1)
 
@@ -29,5 +29,5 @@ admits_alike T h ps g k t n a =
       header = a.header;
       fields = last_alike (λ p. Taken T (fields p)) (piece g) (piece k) (λ x. subst (Taken T) one x) ps a.fields;
       ranks = subst (Rising T.rank) slots_same a.ranks;
-      counts = subst (λ ss. All (Counted T ss) slots) slots_same a.counts;
+      counts = subst (λ ss. AllByRecursion (Counted T ss) slots) slots_same a.counts;
     }

@@ -1,6 +1,6 @@
 -- What a draft holds along a run, and so what is delivered.
 use Rattle.std.proofs.Common.{◌≡◌, ℕ, ◌≤◌, Bool, true, false, eqb, leb, List, [], ◌∷◌, length, Some, None, Ok, Err, Option, sym, refl, ap, ◌∙◌, subst, ap₂, arith, take_at, drop_at}
-use Rattle.std.specs.List.{AllByRecursion as All}
+use Rattle.std.specs.List.{AllByRecursion}
 use Rattle.std.proofs.lemmas.Bool.{eqb-true}
 use Rattle.std.proofs.ByRecursion.{All-take, All-drop}
 use Rattle.wire.specs.Messages.{Header, Message, encode}
@@ -108,7 +108,7 @@ pub record Reached (room : ℕ) (s : Draft) (p : Option Tables) : Type 0 where
   pub kept : Kept room s
   ready : Ready s.held s.stage p
 
-pub run_reached : (room : ℕ) (s : Draft) (p : Option Tables) (cs : List Step) → room ≤ 8192 → All Widths cs → Reached room s p → Reached room (ends room s cs) (in_force room s p cs)
+pub run_reached : (room : ℕ) (s : Draft) (p : Option Tables) (cs : List Step) → room ≤ 8192 → AllByRecursion Widths cs → Reached room s p → Reached room (ends room s cs) (in_force room s p cs)
 unfolding ends in_force
 run_reached room s p [] most w r = r
 run_reached room s p (c ∷ cs) most w r =
@@ -179,9 +179,9 @@ force_signs (released g) s p = refl
 
 pub delivers : DeliversWhatItHolds
 delivers buffer cs w earlier later s n e =
-    let widths = subst (All Widths) e w in
-    let first = subst (All Widths) (take_at earlier (sign s ∷ later) (length earlier) refl) (All-take Widths (length earlier) _ widths) in
-    let rest = subst (All Widths) (drop_at earlier (sign s ∷ later) (length earlier) refl) (All-drop Widths (length earlier) _ widths) in
+    let widths = subst (AllByRecursion Widths) e w in
+    let first = subst (AllByRecursion Widths) (take_at earlier (sign s ∷ later) (length earlier) refl) (All-take Widths (length earlier) _ widths) in
+    let rest = subst (AllByRecursion Widths) (drop_at earlier (sign s ∷ later) (length earlier) refl) (All-drop Widths (length earlier) _ widths) in
     let r = run_reached (counted buffer) begin None earlier (omega arith) first (begin_reached (counted buffer)) in
     let t : Draft = end_of buffer earlier in
     let k = step_kept (counted buffer) t (sign s) rest.0 r.kept in

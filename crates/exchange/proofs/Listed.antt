@@ -1,7 +1,7 @@
 -- The calls that draft a message, from its bytes and its rows.
 use Rattle.std.proofs.Common.{◌≡◌, ℕ, zero, suc, ◌+◌, ◌-◌, ◌*◌, ◌/◌, ◌<◌, ◌≤◌, List, [], ◌∷◌, ◌++◌, length, get_or, take, drop, replicate, sym, refl, ap, ◌∙◌, subst, ap₂, append_assoc, arith, length-append, drop-drop, drop_at}
 use lib.Seq.{get_or_at}
-use Rattle.std.specs.List.{AllByRecursion as All}
+use Rattle.std.specs.List.{AllByRecursion}
 use Rattle.std.proofs.lemmas.List.{drop-take, take_rest, get_or_append_left, get_or-append-add}
 use Rattle.wire.specs.declared.kind.Kind.TheVariants.{Sign}
 use Rattle.wire.specs.declared.row.Row.{Row}
@@ -84,7 +84,7 @@ row_of bs row p others l c n own =
           ∙ ap (λ x. drop 1 (take x (drop row.start bs))) (sym k) ∙ ap (drop 1) is;
     }
 
-rows_of : (bs : List ℕ) (at : ℕ) (ps qs : List Payload) → All LawfulPayload ps → MarksOff bs (rows_from at (ps ++ qs)) (ps ++ qs)
+rows_of : (bs : List ℕ) (at : ℕ) (ps qs : List Payload) → AllByRecursion LawfulPayload ps → MarksOff bs (rows_from at (ps ++ qs)) (ps ++ qs)
     → (i : ℕ) (r : Row) (p : Payload) → i < length ps → RowOf bs (get_or (rows_from at (ps ++ qs)) i r) (get_or ps i p)
 unfolding rows_from MarksOff
 rows_of bs at [] qs l o i r p h = absurd (omega arith)

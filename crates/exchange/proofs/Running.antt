@@ -1,6 +1,6 @@
 -- A run of calls, one after the other.
 use Rattle.std.proofs.Common.{◌≡◌, ℕ, ◌+◌, ◌-◌, ◌<◌, ◌≤◌, min, List, [], ◌∷◌, ◌++◌, length, get_or, take, drop, set, replicate, sym, refl, ap, ◌∙◌, subst, ap₂, append_assoc, append-nil, arith}
-use Rattle.std.specs.List.{AllByRecursion as All}
+use Rattle.std.specs.List.{AllByRecursion}
 use Rattle.std.proofs.lemmas.List.{at_drop_more, at_drop_all, take_all, drop_all, take_more_set, length-map, get_or-map, length-take, same_lists, places}
 use Rattle.std.proofs.ByRecursion.{All-more}
 use Rattle.profile.specs.Tables.{Tables}
@@ -29,7 +29,7 @@ pub record Reached (buffer : List ℕ) (cs : List Step) (i : ℕ) (s : Draft) (b
 -- and gives the answers of all
 pub record Answered (buffer : List ℕ) (cs : List Step) (i : ℕ) (s : Draft) (rs : List Reply) : Type 0 where
   pub answers : take i rs ++ replies (counted buffer) s (drop i cs) ≡ replies_of buffer cs
-  pub widths : All Widths (take i cs)
+  pub widths : AllByRecursion Widths (take i cs)
 
 pub reached_first : (buffer : List ℕ) (cs : List Step) (s : Draft) → s ≡ begin → buffer ≡ image buffer s → Reached buffer cs 0 s buffer
 reached_first buffer cs s e is = record { ending = ap (λ x. ends (counted buffer) x cs) e; is = is; long = refl; past = refl }
@@ -113,8 +113,8 @@ module _ (start buffer : List ℕ) (cs : List Step) (i : ℕ) (s : Draft) (bytes
       past = subst (λ k. drop k bytes ≡ drop k start) starts r.past ∙ ap (drop (counted buffer)) begun ∙ image_past buffer begin (omega arith);
     }
 
-    pub reached_widths : All Widths cs
-    reached_widths = subst (All Widths) (take_all i cs all) a.widths
+    pub reached_widths : AllByRecursion Widths cs
+    reached_widths = subst (AllByRecursion Widths) (take_all i cs all) a.widths
 
 pub begun_again : (buffer start : List ℕ) → start ≡ image buffer begin → start ≡ image start begin
 begun_again buffer start e =

@@ -1,7 +1,7 @@
 -- The whole promise: what is read is exactly what was meant, drafts are as the plain draft, what is delivered is what was held, and what
 -- is read can be drafted again.
 use Rattle.std.specs.Prelude.{◌≡◌, ℕ, ◌≤◌, Bool, true, List, ◌∷◌, ◌++◌, length, take, drop, Some, None, Ok, Err}
-use Rattle.std.specs.List.{AllByRecursion as All}
+use Rattle.std.specs.List.{AllByRecursion}
 use Rattle.wire.specs.declared.refusal.Refusal.{Refusal}
 use Rattle.wire.specs.Octets.{Octets}
 use Rattle.wire.specs.Refusals.{told}
@@ -66,7 +66,7 @@ Delivers buffer cs = (earlier later : List Step) (signature : List ℕ) (n : ℕ
     turn.reply ≡ Delivered n → Delivering buffer earlier signature n turn.draft
 
 abbrev pub DeliversWhatItHolds : Type 0
-DeliversWhatItHolds = (buffer : List ℕ) (cs : List Step) → All Widths cs → Delivers buffer cs
+DeliversWhatItHolds = (buffer : List ℕ) (cs : List Step) → AllByRecursion Widths cs → Delivers buffer cs
 
 -- a message that is read is drafted again, call by call, in every buffer that has room for it
 pub record Again (T : Tables) (m : Message) (bytes buffer : List ℕ) : Type 0 where
@@ -84,7 +84,7 @@ pub record Stays (buffer : List ℕ) (s : Draft) : Type 0 where
   pub past : drop (counted buffer) (image buffer s) ≡ drop (counted buffer) buffer
 
 abbrev pub StaysWithin : Type 0
-StaysWithin = (buffer : List ℕ) (cs : List Step) → All Widths cs → Stays buffer (end_of buffer cs)
+StaysWithin = (buffer : List ℕ) (cs : List Step) → AllByRecursion Widths cs → Stays buffer (end_of buffer cs)
 
 -- a call that is refused or misplaced changes nothing
 abbrev pub RefusedUnchanged : Type 0
@@ -101,7 +101,7 @@ pub record Foretold (T : Tables) (V : Signed → Bool) (d : Held) (type n : ℕ)
   pub reads : reading T V (encode (signed_as header d.payloads (unsigned type n))) ≡ Err f
 
 abbrev pub CloseForetells : Type 0
-CloseForetells = (buffer : List ℕ) (cs : List Step) (T : Tables) (V : Signed → Bool) (type n : ℕ) (f : Refusal) → All Widths cs →
+CloseForetells = (buffer : List ℕ) (cs : List Step) (T : Tables) (V : Signed → Bool) (type n : ℕ) (f : Refusal) → AllByRecursion Widths cs →
     let s : Draft = end_of buffer cs in
     s.stage ≡ opened → (step (counted buffer) s (close T type n)).draft.stage ≡ faulty f → 14 ≤ (told f).number → (told f).number ≤ 17 →
     Foretold T V s.held type n f

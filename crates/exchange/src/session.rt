@@ -1,6 +1,6 @@
 // A list of calls on a draft.
 ghost use Rattle.std.specs.Prelude.{◌≡◌, ◌≤◌, length, take};
-ghost use Rattle.std.specs.List.{AllByRecursion as All};
+ghost use Rattle.std.specs.List.{AllByRecursion};
 ghost use Rattle.plain.specs.Kept.{Widths};
 ghost use Rattle.exchange.specs.Runs.{steps_of, Runs};
 
@@ -16,7 +16,7 @@ fn make_calls<'a, P: Profile>(
 ) -> (usize, &'a mut [u8])
     requires { length calls.now ≡ length replies.old }
     ensures runs { Runs (steps_of P.Profile.tables calls.now) buffer.old replies.old result.1.now replies.new result.0 }
-    ensures widths { All Widths (steps_of P.Profile.tables calls.now) }
+    ensures widths { AllByRecursion Widths (steps_of P.Profile.tables calls.now) }
     ensures lent { result.1.ghost_name ≡ buffer.entry.ghost_name }
 {
     let mut draft = Draft::begin(buffer);
@@ -30,7 +30,7 @@ fn make_calls<'a, P: Profile>(
 fn exact<P: Profile>(buffer: &mut [u8], calls: &[Call<'_, P>], replies: &mut [Reply]) -> usize
     requires { length calls.now ≡ length replies.old }
     ensures runs { Runs (steps_of P.Profile.tables calls.now) buffer.old replies.old buffer.new replies.new result }
-    ensures widths { All Widths (steps_of P.Profile.tables calls.now) }
+    ensures widths { AllByRecursion Widths (steps_of P.Profile.tables calls.now) }
 {
     let (length, _buffer) = make_calls(buffer, calls, replies);
     length
@@ -40,7 +40,7 @@ fn exact<P: Profile>(buffer: &mut [u8], calls: &[Call<'_, P>], replies: &mut [Re
 // encoding then held. A call that the state does not take is told as such.
 pub fn run<P: Profile>(buffer: &mut [u8], calls: &[Call<'_, P>], replies: &mut [Reply]) -> usize
     ensures runs { Runs (steps_of P.Profile.tables (take (length replies.old) calls.now)) buffer.old replies.old buffer.new replies.new result }
-    ensures widths { All Widths (steps_of P.Profile.tables (take (length replies.old) calls.now)) }
+    ensures widths { AllByRecursion Widths (steps_of P.Profile.tables (take (length replies.old) calls.now)) }
 {
     let n = calls.len().min(replies.len());
     exact(buffer, &calls[0..n], &mut replies[0..n])

@@ -1,7 +1,7 @@
 -- Every call keeps the records lawful and within the counted bytes.
 use Rattle.std.proofs.Common.{◌≡◌, ℕ, zero, suc, ◌<◌, ◌≤◌, Bool, true, false, eqb, ltb, leb, List, [], ◌∷◌, length, take, set, replicate, Some, None, Ok, Err, Option, sym, refl, ap, subst, arith, length-set}
 use lib.ListN.{length-replicate}
-use Rattle.std.specs.List.{insert, remove as removed, AllByRecursion as All}
+use Rattle.std.specs.List.{insert, remove as removed, AllByRecursion}
 use Rattle.std.proofs.lemmas.Bool.{leb-true, ltb-true, eqb-true, and_parts}
 use Rattle.std.proofs.ByRecursion.{All-append, All-take, All-drop, All-set}
 use Rattle.std.proofs.lemmas.List.Edits.{length-insert, length-remove}
@@ -34,7 +34,7 @@ never_none o h e n = let z : ◌≡◌ {A = ℕ} 0 1 = cc in omega arith
 
 -- records that fit
 fitting_sound : (counted : ℕ) (o : Option Header) (h : Header) (ps : List Payload) (e : Held) → fitting counted o ps ≡ Ok e
-    → o ≡ Some h → HeaderKept o → All LawfulPayload ps → length ps < 24 → Sound counted e
+    → o ≡ Some h → HeaderKept o → AllByRecursion LawfulPayload ps → length ps < 24 → Sound counted e
 fitting_sound counted o h ps e q some header payloads few =
     let c = check_ok (leb (length (bytes_of o ps None)) counted) _ _ e q in
     subst (Sound counted) (same_ok (record { header = o; payloads = ps }) e c.1) (record {
@@ -151,11 +151,11 @@ close_kept counted d T type n s (Ok u) e =
     }
 
 -- a message with another signature of the same length is as long
-pub same_length : (h : Header) (ps : List Payload) (g k : Sign) → All LawfulPayload ps → length g.signature ≡ length k.signature
+pub same_length : (h : Header) (ps : List Payload) (g k : Sign) → AllByRecursion LawfulPayload ps → length g.signature ≡ length k.signature
     → length (encode (signed_as h ps g)) ≡ length (encode (signed_as h ps k))
 same_length h ps g k l e = omega (arith, encode_length (signed_as h ps g) l, encode_length (signed_as h ps k) l)
 
-resigned : (counted : ℕ) (o : Option Header) (ps : List Payload) (g k : Sign) → All LawfulPayload ps → g.type ≡ k.type → length g.signature ≡ length k.signature
+resigned : (counted : ℕ) (o : Option Header) (ps : List Payload) (g k : Sign) → AllByRecursion LawfulPayload ps → g.type ≡ k.type → length g.signature ≡ length k.signature
     → Octets k.signature → SignKept o (Some g) → length (bytes_of o ps (Some g)) ≤ counted → SignKept o (Some k) × (length (bytes_of o ps (Some k)) ≤ counted)
 resigned counted None ps g k l t e y s f = absurd s
 resigned counted (Some h) ps g k l t e y s f = (

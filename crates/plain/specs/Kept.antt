@@ -1,6 +1,6 @@
 -- What every call keeps: the records held are lawful and fit the counted bytes.
 use Rattle.std.specs.Prelude.{◌≡◌, ℕ, ◌^◌, ◌<◌, ◌≤◌, length, Some, None, Option}
-use Rattle.std.specs.List.{AllByRecursion as All}
+use Rattle.std.specs.List.{AllByRecursion}
 use Rattle.wire.specs.Octets.{Octets}
 use Rattle.wire.specs.Messages.{Header}
 use Rattle.wire.specs.Lawful.{LawfulHeader, LawfulPayload, LawfulSign}
@@ -24,7 +24,7 @@ SignKept (Some h) (Some g) = LawfulSign g.type g.signature
 pub record Sound (counted : ℕ) (d : Held) : Type 0 where
   pub header : HeaderKept d.header
   pub headed : d.header ≡ None → length d.payloads ≡ 0
-  pub payloads : All LawfulPayload d.payloads
+  pub payloads : AllByRecursion LawfulPayload d.payloads
   pub few : length d.payloads < 24
   pub fits : length (bytes_of d.header d.payloads None) ≤ counted
 

@@ -1,7 +1,7 @@
 -- A profile's refusals stand for what it admits.
 use Rattle.std.proofs.Common.{◌≡◌, ℕ, ◌+◌, ◌≤◌, true, cond, eqb, leb, List, [], ◌∷◌, ◌++◌, length, Ok, sym, refl, ap, ◌∙◌, subst, inl, inr, arith}
 use mathlib.Core.Path.{transport}
-use Rattle.std.specs.List.{AllByRecursion as All}
+use Rattle.std.specs.List.{AllByRecursion}
 use Rattle.std.proofs.lemmas.Bool.{leb-true, le-leb, eqb-true, eq-eqb, cases_Bool}
 use Rattle.std.proofs.ByRecursion.{All-weaker}
 use Rattle.wire.specs.declared.row.Row.{Row}
@@ -53,7 +53,7 @@ module _ (P : Tables) where
 
   -- what is passed behind earlier rows
   record Fits (last : ℕ) (earlier : List Row) (ps : List Payload) : Type 0 where
-    fields : All (λ p. Taken P (fields p)) ps
+    fields : AllByRecursion (λ p. Taken P (fields p)) ps
     ranks : From last ps
     most : (s : ℕ) → count s (slots_in earlier) ≤ P.most s → Most earlier ps s
 
@@ -71,7 +71,7 @@ module _ (P : Tables) where
         | inr e ↦ rw e (omega arith)
       ]
 
-  fitting_ok : (bs : List ℕ) (at last : ℕ) (earlier : List Row) (ps : List Payload) (u : Unit {0}) → MarksOff bs (rows_from at ps) ps → All Drawn ps
+  fitting_ok : (bs : List ℕ) (at last : ℕ) (earlier : List Row) (ps : List Payload) (u : Unit {0}) → MarksOff bs (rows_from at ps) ps → AllByRecursion Drawn ps
       → fitting P bs last earlier (rows_from at ps) ≡ Ok u → Fits last earlier ps
   unfolding fitting rows_from MarksOff
   fitting_ok bs at last earlier [] u m d e = record { fields = tt; ranks = tt; most = λ s h. omega arith }
@@ -96,8 +96,8 @@ module _ (P : Tables) where
             omega arith;
       }
 
-  fitting_pass : (bs : List ℕ) (at last : ℕ) (earlier : List Row) (ps : List Payload) → MarksOff bs (rows_from at ps) ps → All Drawn ps
-      → All (λ p. Taken P (fields p)) ps → From last ps → All (Most earlier ps) slots → fitting P bs last earlier (rows_from at ps) ≡ Ok tt
+  fitting_pass : (bs : List ℕ) (at last : ℕ) (earlier : List Row) (ps : List Payload) → MarksOff bs (rows_from at ps) ps → AllByRecursion Drawn ps
+      → AllByRecursion (λ p. Taken P (fields p)) ps → From last ps → AllByRecursion (Most earlier ps) slots → fitting P bs last earlier (rows_from at ps) ≡ Ok tt
   unfolding fitting rows_from MarksOff
   fitting_pass bs at last earlier [] m d t r h = refl
   fitting_pass bs at last earlier (p ∷ ps) m d t r h =
@@ -112,14 +112,14 @@ module _ (P : Tables) where
       (All-weaker (Most earlier (p ∷ ps)) (Most (earlier ++ (row ∷ [])) ps) (λ s g. omega (arith, one_more s at earlier p)) slots h) in
       rw (f, k, c, ih)
 
-  sufficing_ok : (end : ℕ) (rows : List Row) (ss : List ℕ) (u : Unit {0}) → sufficing P end rows ss ≡ Ok u → All (λ s. P.least s ≤ count s (slots_in rows)) ss
+  sufficing_ok : (end : ℕ) (rows : List Row) (ss : List ℕ) (u : Unit {0}) → sufficing P end rows ss ≡ Ok u → AllByRecursion (λ s. P.least s ≤ count s (slots_in rows)) ss
   sufficing_ok end rows [] u e = tt
   sufficing_ok end rows (s ∷ ss) u e =
       let a = and_then_ok (sufficient P end rows s) _ u e in
       let c = check_ok (leb (P.least s) (count s (slots_in rows))) _ _ a.0 a.1 in
       (leb-true _ _ c.0, sufficing_ok end rows ss u a.2)
 
-  sufficing_pass : (end : ℕ) (rows : List Row) (ss : List ℕ) → All (λ s. P.least s ≤ count s (slots_in rows)) ss → sufficing P end rows ss ≡ Ok tt
+  sufficing_pass : (end : ℕ) (rows : List Row) (ss : List ℕ) → AllByRecursion (λ s. P.least s ≤ count s (slots_in rows)) ss → sufficing P end rows ss ≡ Ok tt
   sufficing_pass end rows [] h = refl
   sufficing_pass end rows (s ∷ ss) h = rw (le-leb (P.least s) (count s (slots_in rows)) h.0, sufficing_pass end rows ss h.1)
 
@@ -136,7 +136,7 @@ module _ (P : Tables) where
         let a = and_then_ok (taking P (header_in (encode m))) _ u e in
         let b = and_then_ok (fitting P (encode m) 0 [] (rows m)) _ u a.2 in
         let f = fitting_ok (encode m) (header_length m) 0 [] (pieces m) b.0 marked (pieces_drawn m l) b.1 in
-        let least = subst (λ ss. All (λ s. P.least s ≤ count s ss) slots) same_slots (sufficing_ok (length (encode m)) (rows m) slots u b.2) in
+        let least = subst (λ ss. AllByRecursion (λ s. P.least s ≤ count s ss) slots) same_slots (sufficing_ok (length (encode m)) (rows m) slots u b.2) in
         record {
           header = subst (Taken P) (header_same m) (taking_ok (header_in (encode m)) a.0 a.1);
           fields = f.fields;
@@ -152,6 +152,6 @@ module _ (P : Tables) where
         fitting_pass (encode m) (header_length m) 0 [] (pieces m) marked (pieces_drawn m l) w.fields (starts (pieces m) w.ranks)
         (All-weaker (Counted P (slots_of (pieces m))) (Most [] (pieces m)) (λ s k. omega arith) slots w.counts) in
         let s : sufficing P (length (encode m)) (rows m) slots ≡ Ok tt =
-        sufficing_pass (length (encode m)) (rows m) slots (subst (λ ss. All (λ s. P.least s ≤ count s ss) slots) (sym same_slots)
+        sufficing_pass (length (encode m)) (rows m) slots (subst (λ ss. AllByRecursion (λ s. P.least s ≤ count s ss) slots) (sym same_slots)
         (All-weaker (Counted P (slots_of (pieces m))) (λ s. P.least s ≤ count s (slots_of (pieces m))) (λ s k. k.0) slots w.counts)) in
         rw (h, f, s)

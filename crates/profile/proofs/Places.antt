@@ -1,6 +1,6 @@
 -- The fields of a payload are read from its bytes in the message.
 use Rattle.std.proofs.Common.{◌≡◌, ℕ, ◌+◌, ◌-◌, ◌/◌, ◌%◌, ◌^◌, ◌<◌, ◌≤◌, true, eqb, List, [], ◌∷◌, map, length, get_or, take, drop, sym, refl, ap, ◌∙◌, ap₂, arith}
-use Rattle.std.specs.List.{AllByRecursion as All}
+use Rattle.std.specs.List.{AllByRecursion}
 use Rattle.std.proofs.lemmas.List.{get_or-take, get_or-drop, get_or-append_right}
 use Rattle.std.proofs.lemmas.Bool.{cond_both}
 use Rattle.wire.specs.declared.kind.Kind.{Kind}
@@ -27,14 +27,14 @@ abbrev InBody : Kind → List ℕ → Place → Type 0
 InBody k body f = (lead k ≤ f.byte) × (f.byte < lead k + length body)
 
 -- of a body as drawn, in the slot of its first byte
-places_inside : {k : Kind} {body : List ℕ} → Body k body → All (InBody k body) (field_places k (slot_of k (get_or body 0 0)))
+places_inside : {k : Kind} {body : List ℕ} → Body k body → AllByRecursion (InBody k body) (field_places k (slot_of k (get_or body 0 0)))
 places_inside (t value l) = tt
 places_inside (rand r) = omega arith
 places_inside (idr role type d) = omega arith
 places_inside (sp policy prot params i) = omega arith
 places_inside (sakke params scheme d) = omega arith
 places_inside (ext type d w) =
-    rw w (cond_both (eqb type 7) 10 12 (λ slot. All (InBody Ext (type ∷ sized d)) (field_places Ext slot)) (λ e. tt) (λ e. tt))
+    rw w (cond_both (eqb type 7) 10 12 (λ slot. AllByRecursion (InBody Ext (type ∷ sized d)) (field_places Ext slot)) (λ e. tt) (λ e. tt))
 places_inside (wrapping type next params scheme d w) = rw w (omega arith)
 places_inside (sign type s least most) = omega arith
 
@@ -55,7 +55,7 @@ module _ (bs : List ℕ) (start : ℕ) (p : Payload) (others : List Payload) (ow
   moved : Field → Field
   moved f = field f.number (start + f.byte) f.value
 
-  fields_moved : (fs : List Place) → All (InBody p.kind p.body) fs → map (field_in bs start) fs ≡ map moved (map (field_of p) fs)
+  fields_moved : (fs : List Place) → AllByRecursion (InBody p.kind p.body) fs → map (field_in bs start) fs ≡ map moved (map (field_of p) fs)
   unfolding moved
   fields_moved [] h = refl
   fields_moved (f ∷ fs) h =

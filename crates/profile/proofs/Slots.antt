@@ -1,6 +1,6 @@
 -- Slots of payloads and of their rows, and how often they stand.
 use Rattle.std.proofs.Common.{◌≡◌, ℕ, zero, suc, ◌+◌, ◌<◌, ◌≤◌, eqb, List, [], ◌∷◌, ◌++◌, refl, ap, subst, inl, inr, arith}
-use Rattle.std.specs.List.{AllByRecursion as All}
+use Rattle.std.specs.List.{AllByRecursion}
 use Rattle.std.proofs.lemmas.Bool.{cond_both, cases_eq}
 use Rattle.wire.specs.declared.kind.Kind.{Kind}
 use Rattle.wire.specs.declared.kind.Kind.TheVariants.{T, Rand, Idr, Sp, Sakke, Ext, Sign}
@@ -24,7 +24,7 @@ slots_same at [] = refl
 slots_same at (p ∷ ps) = ap (λ x. slot p ∷ x) (slots_same (at + size p) ps)
 
 -- each payload is in one of the slots there are
-among_these : (Q : ℕ → Type 0) → Q 12 → (rs : List Slotted) → All (λ r. Q r.slot) rs → (v : ℕ) → Q (among rs v)
+among_these : (Q : ℕ → Type 0) → Q 12 → (rs : List Slotted) → AllByRecursion (λ r. Q r.slot) rs → (v : ℕ) → Q (among rs v)
 among_these Q other [] h v = other
 among_these Q other (r ∷ rs) h v = cond_both (eqb v r.value) r.slot (among rs v) Q (λ e. h.0) (λ e. among_these Q other rs h.1 v)
 
@@ -40,7 +40,7 @@ slot_there Sakke v = (omega arith, omega arith)
 slot_there Ext v = among_these There (omega arith, omega arith) types (omega arith) v
 slot_there Sign v = (omega arith, omega arith)
 
-among_numbers : (Q : ℕ → Type 0) (many n : ℕ) → All Q (numbers many n) → (s : ℕ) → n ≤ s → s < n + many → Q s
+among_numbers : (Q : ℕ → Type 0) (many n : ℕ) → AllByRecursion Q (numbers many n) → (s : ℕ) → n ≤ s → s < n + many → Q s
 among_numbers Q zero n h s lo hi = absurd (omega arith)
 among_numbers Q (suc many) n h s lo hi =
     elim (cases_eq n s) [
@@ -48,7 +48,7 @@ among_numbers Q (suc many) n h s lo hi =
       | inr e ↦ among_numbers Q many (n + 1) h.1 s (omega arith) (omega arith)
     ]
 
-pub at_slot : (Q : ℕ → Type 0) → All Q slots → (p : Payload) → Q (slot p)
+pub at_slot : (Q : ℕ → Type 0) → AllByRecursion Q slots → (p : Payload) → Q (slot p)
 at_slot Q h p =
     let t = slot_there p.kind _ in
     among_numbers Q 12 1 h (slot p) t.0 (omega arith)

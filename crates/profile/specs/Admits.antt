@@ -1,6 +1,6 @@
 -- What a profile admits.
 use Rattle.std.specs.Prelude.{◌≡◌, ℕ, zero, suc, ◌+◌, ◌≤◌, true, cond, List, [], ◌∷◌, ◌==◌}
-use Rattle.std.specs.List.{AllByRecursion as All}
+use Rattle.std.specs.List.{AllByRecursion}
 use Rattle.wire.specs.Messages.{Payload, Message, pieces}
 use Rattle.wire.specs.Rows.{slot}
 use Rattle.profile.specs.Tables.{Tables}
@@ -25,7 +25,7 @@ slots_of [] = []
 slots_of (p ∷ ps) = slot p ∷ slots_of ps
 
 abbrev pub Taken : Tables → List Field → Type 0
-Taken T fs = All (λ f. T.takes f.number f.value ≡ true) fs
+Taken T fs = AllByRecursion (λ f. T.takes f.number f.value ≡ true) fs
 
 -- no rank is below the one before
 abbrev pub Rising : (ℕ → ℕ) → List ℕ → Type 0
@@ -39,6 +39,6 @@ Counted T ss s = (T.least s ≤ count s ss) × (count s ss ≤ T.most s)
 -- every field is taken, ranks never fall, and each slot stands as often as it may, SIGN included
 pub record Admits (T : Tables) (m : Message) : Type 0 where
   pub header : Taken T (header_fields m.header)
-  pub fields : All (λ p. Taken T (fields p)) (pieces m)
+  pub fields : AllByRecursion (λ p. Taken T (fields p)) (pieces m)
   pub ranks : Rising T.rank (slots_of (pieces m))
-  pub counts : All (Counted T (slots_of (pieces m))) slots
+  pub counts : AllByRecursion (Counted T (slots_of (pieces m))) slots

@@ -1,6 +1,6 @@
 -- What the rows of a lawful message say of its signer, its span and its signature.
 use Rattle.std.proofs.Common.{◌≡◌, ℕ, zero, suc, ◌+◌, ◌<◌, ◌≤◌, cond, eqb, List, [], ◌∷◌, ◌++◌, length, get_or, take, drop, sym, refl, ap, ◌∙◌, inl, inr, append_assoc, arith, length-drop, length-take}
-use Rattle.std.specs.List.{AllByRecursion as All}
+use Rattle.std.specs.List.{AllByRecursion}
 use Rattle.std.proofs.lemmas.Bool.{cond_both, cases_Bool, eqb-true}
 use Rattle.wire.specs.declared.kind.Kind.{Kind}
 use Rattle.wire.specs.declared.kind.Kind.TheVariants.{Ext, Sign}
@@ -39,7 +39,7 @@ pub part_inside : (bs : List ℕ) (start n : ℕ) → 0 < n → length (take n (
 part_inside bs start n h e = let cut = simp (length-take, length-drop) at e in omega arith
 
 module _ (bs : List ℕ) where
-  within_from : (at : ℕ) (ps : List Payload) → MarksOff bs (rows_from at ps) ps → All Drawn ps → Within (length bs) (rows_from at ps)
+  within_from : (at : ℕ) (ps : List Payload) → MarksOff bs (rows_from at ps) ps → AllByRecursion Drawn ps → Within (length bs) (rows_from at ps)
   unfolding rows_from MarksOff
   within_from at [] o d i h e = absurd (omega arith)
   within_from at (p ∷ ps) o d zero h e =
@@ -50,7 +50,7 @@ module _ (bs : List ℕ) where
       (omega arith, part_inside bs at (size p) (omega arith) (own ∙ omega arith))
   within_from at (p ∷ ps) o d (suc i) h e = within_from (at + size p) ps o.1 d.1 i (omega arith) e
 
-  signer_from : (at : ℕ) (ps : List Payload) → MarksOff bs (rows_from at ps) ps → All Drawn ps → signer_in bs (rows_from at ps) ≡ signer_of ps
+  signer_from : (at : ℕ) (ps : List Payload) → MarksOff bs (rows_from at ps) ps → AllByRecursion Drawn ps → signer_in bs (rows_from at ps) ≡ signer_of ps
   unfolding rows_from MarksOff
   signer_from at [] o d = refl
   signer_from at (p ∷ ps) o d =

@@ -1,6 +1,6 @@
 -- A chain of payloads and SIGN: what is encoded is found, and what is found was encoded.
 use Rattle.std.proofs.Common.{◌≡◌, ℕ, zero, suc, ◌+◌, ◌/◌, ◌%◌, ◌<◌, Bool, true, false, cond, List, [], ◌∷◌, ◌++◌, length, get_or, drop, Ok, sym, refl, ap, ◌∙◌, subst, ap₂, append_assoc, zero-add, one-add, arith, length-append, length-drop, drop_at}
-use Rattle.std.specs.List.{AllByRecursion as All}
+use Rattle.std.specs.List.{AllByRecursion}
 use Rattle.std.proofs.ByRecursion.{All-drop}
 use Rattle.std.proofs.lemmas.Bool.{ltb-true}
 use Rattle.wire.specs.declared.kind.Kind.{Kind}
@@ -46,7 +46,7 @@ last_there left naming at type signature after l =
     drop_at (sign_body type signature) after (0 + length (sign_body type signature)) (omega arith) in
     rw (b, d, n)
 
-pub chain_there : (ps : List Payload) (left naming at type : ℕ) (signature after : List ℕ) → All LawfulPayload ps → LawfulSign type signature → length ps < left
+pub chain_there : (ps : List Payload) (left naming at type : ℕ) (signature after : List ℕ) → AllByRecursion LawfulPayload ps → LawfulSign type signature → length ps < left
     → chain left (first (code_of Sign) ps) naming at (payloads_bytes (code_of Sign) ps ++ (sign_body type signature ++ after))
     ≡ Ok (record { payloads = ps; sign_type = type; signature = signature; after = after })
 chain_there ps zero naming at type signature after l s h = absurd (omega arith)
@@ -61,7 +61,7 @@ chain_there (p ∷ ps) (suc left) naming at type signature after l s h =
 pub record Back (left code : ℕ) (bs : List ℕ) (c : Chain) : Type 0 where
   pub named : code ≡ first (code_of Sign) c.payloads
   pub is : payloads_bytes (code_of Sign) c.payloads ++ (sign_body c.sign_type c.signature ++ c.after) ≡ bs
-  pub payloads : All LawfulPayload c.payloads
+  pub payloads : AllByRecursion LawfulPayload c.payloads
   pub count : length c.payloads < left
   pub sign : LawfulSign c.sign_type c.signature
 

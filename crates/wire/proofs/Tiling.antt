@@ -1,6 +1,6 @@
 -- The rows of a message lie side by side, and each marks off its payload's bytes.
 use Rattle.std.proofs.Common.{◌≡◌, ℕ, suc, ◌+◌, List, [], ◌∷◌, ◌++◌, length, take, drop, sym, refl, ap, ◌∙◌, subst, append_assoc, arith, length-append, take_at, drop_at}
-use Rattle.std.specs.List.{AllByRecursion as All}
+use Rattle.std.specs.List.{AllByRecursion}
 use Rattle.std.proofs.lemmas.List.{take_all}
 use Rattle.std.proofs.ByRecursion.{All-weaker, All-append}
 use Rattle.wire.specs.declared.kind.Kind.TheVariants.{Sign}
@@ -21,7 +21,7 @@ sizes_append [] qs = omega arith
 sizes_append (p ∷ ps) qs = omega (arith, sizes_append ps qs)
 
 -- payloads that are no SIGN are as long as their sizes
-pub payloads_length : (end : ℕ) (ps : List Payload) → All LawfulPayload ps → length (payloads_bytes end ps) ≡ sizes ps
+pub payloads_length : (end : ℕ) (ps : List Payload) → AllByRecursion LawfulPayload ps → length (payloads_bytes end ps) ≡ sizes ps
 unfolding sizes
 payloads_length end [] l = refl
 payloads_length end (p ∷ ps) l =
@@ -32,15 +32,15 @@ abbrev sign : Message → Payload
 sign m = record { kind = Sign; body = sign_body m.sign_type m.signature }
 
 -- header and payloads
-pub front_length : (end : ℕ) (h : Header) (ps : List Payload) → All LawfulPayload ps → length (front end h ps) ≡ 10 + length h.map_info + sizes ps
+pub front_length : (end : ℕ) (h : Header) (ps : List Payload) → AllByRecursion LawfulPayload ps → length (front end h ps) ≡ 10 + length h.map_info + sizes ps
 front_length end h ps l =
     omega (arith, length-append (header_bytes (first end ps) h) (payloads_bytes end ps), payloads_length end ps l)
 
-pub encode_length : (m : Message) → All LawfulPayload m.payloads → length (encode m) ≡ header_length m + sizes m.payloads + 2 + length m.signature
+pub encode_length : (m : Message) → AllByRecursion LawfulPayload m.payloads → length (encode m) ≡ header_length m + sizes m.payloads + 2 + length m.signature
 encode_length m l =
     omega (arith, length-append (front 4 m.header m.payloads) (sign_body m.sign_type m.signature), front_length 4 m.header m.payloads l)
 
-pub span_length : (m : Message) → All LawfulPayload m.payloads → length (span m) ≡ header_length m + sizes m.payloads + 2
+pub span_length : (m : Message) → AllByRecursion LawfulPayload m.payloads → length (span m) ≡ header_length m + sizes m.payloads + 2
 span_length m l =
     omega (arith, length-append (front 4 m.header m.payloads) (sign_length m.sign_type m.signature), front_length 4 m.header m.payloads l)
 
@@ -62,7 +62,7 @@ first_sign : (m : Message) (ps : List Payload) → first 0 (ps ++ (sign m ∷ []
 first_sign m [] = refl
 first_sign m (p ∷ ps) = refl
 
-marks : (m : Message) (front : List ℕ) (at : ℕ) (ps : List Payload) → length front ≡ at → All LawfulPayload ps
+marks : (m : Message) (front : List ℕ) (at : ℕ) (ps : List Payload) → length front ≡ at → AllByRecursion LawfulPayload ps
     → MarksOff (front ++ (payloads_bytes 4 ps ++ (sign m).body)) (rows_from at (ps ++ (sign m ∷ []))) (ps ++ (sign m ∷ []))
 unfolding MarksOff rows_from
 marks m front at [] e l =
@@ -90,7 +90,7 @@ marked_off m l =
 abbrev pub Drawn : Payload → Type 0
 Drawn p = Body p.kind p.body
 
-pub pieces_drawn : (m : Message) → Lawful m → All Drawn (pieces m)
+pub pieces_drawn : (m : Message) → Lawful m → AllByRecursion Drawn (pieces m)
 pieces_drawn m l =
     All-append Drawn m.payloads _ (All-weaker LawfulPayload Drawn (λ p h. h.body) m.payloads l.payloads)
     (sign_drawn m.sign_type m.signature l.sign.least l.sign.most, tt)

@@ -1,6 +1,6 @@
 -- What a lawful message is.
 use Rattle.std.specs.Prelude.{◌≡◌, ℕ, ◌^◌, ◌<◌, ◌≤◌, false, List, length}
-use Rattle.std.specs.List.{AllByRecursion as All}
+use Rattle.std.specs.List.{AllByRecursion}
 use Rattle.wire.specs.Octets.{Octets}
 use Rattle.wire.specs.Kinds.{is_sign}
 use Rattle.wire.specs.Messages.{Header, Payload, Message, encode, pieces}
@@ -25,7 +25,7 @@ pub record LawfulSign (type : ℕ) (signature : List ℕ) : Type 0 where
 
 pub record Lawful (m : Message) : Type 0 where
   pub header : LawfulHeader m.header
-  pub payloads : All LawfulPayload m.payloads
+  pub payloads : AllByRecursion LawfulPayload m.payloads
   pub sign : LawfulSign m.sign_type m.signature
   pub count : length (pieces m) ≤ 24
   pub size : length (encode m) ≤ 8192

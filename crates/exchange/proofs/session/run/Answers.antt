@@ -1,5 +1,5 @@
 use Rattle.std.proofs.Common.{◌≡◌, ◌-◌, subst, arith}
-use Rattle.std.specs.List.{AllByRecursion as All}
+use Rattle.std.specs.List.{AllByRecursion}
 use Rattle.plain.specs.Kept.{Widths}
 use Rattle.exchange.specs.Runs.{steps_of}
 use Rattle.exchange.proofs.Running.{made, runs_made}
@@ -13,5 +13,5 @@ returns g c =
     let e = c.exact.ensures in
     record {
       runs = rw z (runs_made tables c.args.calls.now c.args.replies.now n c.min-n.ensures c.args.buffer.now c.exact.new.buffer c.exact.new.replies c.exact.result (rw z at e.runs));
-      widths = subst (λ x. All Widths (steps_of tables x)) (made tables c.args.calls.now c.args.replies.now n c.min-n.ensures) (rw z at e.widths);
+      widths = subst (λ x. AllByRecursion Widths (steps_of tables x)) (made tables c.args.calls.now c.args.replies.now n c.min-n.ensures) (rw z at e.widths);
     }
