@@ -1,0 +1,13 @@
+// Tests of drafts: their edits, how they go out, lists of calls, and messages drafted again.
+#![tactic(auto)]
+
+#[cfg(test)]
+mod edits;
+#[cfg(test)]
+mod exchanges;
+#[cfg(test)]
+mod measures;
+#[cfg(test)]
+mod outs;
+#[cfg(test)]
+mod stations;

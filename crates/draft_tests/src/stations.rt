@@ -1,0 +1,25 @@
+// What the tests draft by: a header without sessions, a payload and a key.
+use plain::Head;
+use profile::Sheet;
+use verifier::KeyTag;
+use wire::Refusal;
+
+pub(crate) const KEY: KeyTag = KeyTag { key: 0 };
+
+// The body of a RAND that sheets take.
+pub(crate) const RAND: [u8; 17] = [16, 0, 1, 2, 3, 4, 5, 6, 7, 8, 9, 10, 11, 12, 13, 14, 15];
+
+pub(crate) fn head() -> Head<'static> {
+    Head {
+        byte3: 1,
+        csb: 0x2000_0001,
+        cs: 0,
+        map_type: 1,
+        map_info: &[],
+    }
+}
+
+// One RAND at most, and SIGN.
+pub(crate) fn sheet() -> Result<Sheet, Refusal> {
+    Sheet::parse(b"slot least most rank\n2 0 1 0\n11 1 1 1\n")
+}
