@@ -9,8 +9,8 @@ pub fn byte_at(bytes: &[u8], at: usize) -> u8
     if at < bytes.len() { bytes[at] } else { 0 }
 }
 
-// A clause does not know of bytes that are not read that they are below 256. This reads each byte and does nothing
-// with it, so that it compiles to nothing.
+// Says of the bytes that each is below 256, for the calls that ask for it. It passes by each byte and does nothing with it, so
+// that it compiles to nothing.
 pub fn octets(bytes: &[u8])
     ensures { Octets bytes.now }
 {
