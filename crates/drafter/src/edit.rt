@@ -171,7 +171,7 @@ impl<'a> Core<'a> {
         self.full = self.end;
     }
 
-    // The payload at a position goes; the later ones move up.
+    // The payload at a position goes; the later ones follow into its place.
     pub(crate) fn remove(&mut self, position: usize) -> Result<(), Refusal>
         requires { Editable self.old }
         ensures answer { result ≡ asking (remove_edit position) self.old }

@@ -5,7 +5,7 @@ ghost use Rattle.exchange.specs.Promise.{Promise};
 ghost use Rattle.exchange.specs.Exchanges.{Exchanges};
 
 use crate::redrafting::redraft;
-use crate::session::run;
+use crate::runs::run;
 use plain::{Call, Reply};
 use profile::Profile;
 use reader::read;

@@ -3,8 +3,8 @@
 
 mod exchanging;
 mod redrafting;
-mod session;
+mod runs;
 
 pub use exchanging::{Exchanged, exchange};
 pub use redrafting::redraft;
-pub use session::run;
+pub use runs::run;

@@ -2,7 +2,7 @@ use Rattle.std.proofs.Common.{◌≡◌}
 use Rattle.drafter.specs.Views.{plain_draft, bytes_draft, lent_draft}
 use Rattle.exchange.specs.Runs.{steps_of}
 use Rattle.exchange.proofs.Running.{Reached, Answered}
-use Rattle.exchange.proofs.session.make_calls.Given as goal
+use Rattle.exchange.proofs.runs.make_calls.Given as goal
 
 abbrev pub invariant-loop-i : goal.invariant-loop-i
 invariant-loop-i g l =

@@ -3,7 +3,7 @@ use Rattle.std.specs.List.{AllByRecursion}
 use Rattle.plain.specs.Kept.{Widths}
 use Rattle.exchange.specs.Runs.{steps_of}
 use Rattle.exchange.proofs.Running.{made, runs_made}
-use Rattle.exchange.proofs.session.run.Goals as goal
+use Rattle.exchange.proofs.runs.run.Goals as goal
 
 pub returns : goal.returns
 returns g c =

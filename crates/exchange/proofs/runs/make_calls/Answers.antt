@@ -4,7 +4,7 @@ use Rattle.plain.specs.Steps.{called}
 use Rattle.drafter.specs.Views.{plain_draft, bytes_draft}
 use Rattle.exchange.specs.Runs.{steps_of, Runs}
 use Rattle.exchange.proofs.Running.{reached_first, answered_first, reached_next, answered_next, reached_runs, reached_widths, begun_again, step_at, steps_long}
-use Rattle.exchange.proofs.session.make_calls.Goals as goal
+use Rattle.exchange.proofs.runs.make_calls.Goals as goal
 
 pub loop-i-init : goal.loop-i-init
 loop-i-init g c =
