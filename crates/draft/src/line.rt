@@ -39,6 +39,19 @@ pub enum Line<'a> {
     Release,
 }
 
+impl<'a> Line<'a> {
+    // The bytes that its call is given, as they are spelled; `-` for a call that is given none.
+    pub fn spelled(&self) -> &'a str {
+        match *self {
+            Line::Head { map_info, .. } => map_info,
+            Line::Add { body, .. } => body,
+            Line::Replace { body, .. } => body,
+            Line::Sign(signature) => signature,
+            _ => "-",
+        }
+    }
+}
+
 // The digits of a number and their base: `0x` marks hexadecimal. No sign.
 fn digits(word: &str) -> Option<(&str, u32)>
     ensures { IfSome result (λ d. (2 ≤ d.1) × (d.1 ≤ 36)) }

@@ -32,12 +32,34 @@ fn make(rt: &HostRuntime, draft: &mut Draft<'_>, call: &Call<'_, Choice>) -> io:
     Ok(true)
 }
 
-fn head(rt: &HostRuntime, draft: &mut Draft<'_>, head: &Head<'_>) -> io::Result<bool> {
-    make(rt, draft, &Call::Head(*head))
+fn close(
+    rt: &HostRuntime,
+    draft: &mut Draft<'_>,
+    profile: &str,
+    sign_type: u8,
+    length: usize,
+) -> io::Result<bool> {
+    match profile_of(rt, profile)? {
+        Some(profile) => make(
+            rt,
+            draft,
+            &Call::Close {
+                profile: &profile,
+                sign_type,
+                length,
+            },
+        ),
+        None => Ok(false),
+    }
 }
 
-// Makes the call of a line, unless its bytes or its profile can't be read: then it is no call.
-fn obey(rt: &HostRuntime, draft: &mut Draft<'_>, line: Line<'_>) -> io::Result<bool> {
+// Makes the call of a line with the bytes that it is given.
+fn make_line(
+    rt: &HostRuntime,
+    draft: &mut Draft<'_>,
+    line: Line<'_>,
+    bytes: &[u8],
+) -> io::Result<bool> {
     match line {
         Line::Blank => Ok(true),
         Line::Begin { .. } => {
@@ -49,84 +71,52 @@ fn obey(rt: &HostRuntime, draft: &mut Draft<'_>, line: Line<'_>) -> io::Result<b
             csb,
             cs,
             map_type,
-            map_info,
-        } => match bytes_of(rt, map_info)? {
-            Some(info) => head(
-                rt,
-                draft,
-                &Head {
-                    byte3,
-                    csb,
-                    cs,
-                    map_type,
-                    map_info: &info,
-                },
-            ),
-            None => Ok(false),
-        },
-        Line::Add {
-            position,
-            code,
-            body,
-        } => match bytes_of(rt, body)? {
-            Some(body) => make(
-                rt,
-                draft,
-                &Call::Add {
-                    position,
-                    code,
-                    body: &body,
-                },
-            ),
-            None => Ok(false),
-        },
-        Line::Replace {
-            position,
-            code,
-            body,
-        } => match bytes_of(rt, body)? {
-            Some(body) => make(
-                rt,
-                draft,
-                &Call::Replace {
-                    position,
-                    code,
-                    body: &body,
-                },
-            ),
-            None => Ok(false),
-        },
+            ..
+        } => {
+            let head = Head {
+                byte3,
+                csb,
+                cs,
+                map_type,
+                map_info: bytes,
+            };
+            make(rt, draft, &Call::Head(head))
+        }
+        Line::Add { position, code, .. } => make(
+            rt,
+            draft,
+            &Call::Add {
+                position,
+                code,
+                body: bytes,
+            },
+        ),
+        Line::Replace { position, code, .. } => make(
+            rt,
+            draft,
+            &Call::Replace {
+                position,
+                code,
+                body: bytes,
+            },
+        ),
         Line::Remove { position } => make(rt, draft, &Call::Remove { position }),
-        _ => deliver(rt, draft, line),
-    }
-}
-
-// The calls that take a draft out.
-fn deliver(rt: &HostRuntime, draft: &mut Draft<'_>, line: Line<'_>) -> io::Result<bool> {
-    match line {
         Line::Close {
             profile,
             sign_type,
             length,
-        } => match profile_of(rt, profile)? {
-            Some(profile) => make(
-                rt,
-                draft,
-                &Call::Close {
-                    profile: &profile,
-                    sign_type,
-                    length,
-                },
-            ),
-            None => Ok(false),
-        },
-        Line::Sign(signature) => match bytes_of(rt, signature)? {
-            Some(signature) => make(rt, draft, &Call::Sign(&signature)),
-            None => Ok(false),
-        },
+        } => close(rt, draft, profile, sign_type, length),
+        Line::Sign(_) => make(rt, draft, &Call::Sign(bytes)),
         Line::Withdraw => make(rt, draft, &Call::Withdraw),
         Line::Release => make(rt, draft, &Call::Release),
-        _ => Ok(true),
+    }
+}
+
+// False where the line's bytes or its profile can't be read, so that it is no call.
+fn obey(rt: &HostRuntime, draft: &mut Draft<'_>, line: Line<'_>) -> io::Result<bool> {
+    match bytes_of(rt, line.spelled())? {
+        Some(bytes) => make_line(rt, draft, line, &bytes),
+        None => Ok(false),
     }
 }
 

@@ -31,13 +31,7 @@ fn as_many_calls_as_there_are_replies(rt: HostRuntime) {
 
 #[test]
 fn a_message_is_drafted_again(rt: HostRuntime) {
-    let sheet = match sheet() {
-        Ok(sheet) => sheet,
-        Err(_) => {
-            assert!(rt; false);
-            return;
-        },
-    };
+    let sheet = sheet().expect(&rt, "a sheet");
     let pinned = Pinned {
         signer: b"",
         span: &SHORTEST[0..12],
@@ -76,13 +70,7 @@ fn whole<'a>(sheet: &'a Sheet) -> [Call<'a, Sheet>; 3] {
 
 #[test]
 fn the_whole_way_of_a_message(rt: HostRuntime) {
-    let sheet = match sheet() {
-        Ok(sheet) => sheet,
-        Err(_) => {
-            assert!(rt; false);
-            return;
-        },
-    };
+    let sheet = sheet().expect(&rt, "a sheet");
     let pinned = Pinned {
         signer: b"",
         span: &SHORTEST[0..12],

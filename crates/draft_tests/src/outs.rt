@@ -7,13 +7,7 @@ use wire::Refusal;
 
 #[test]
 fn a_message_is_signed_and_withdrawn(rt: HostRuntime) {
-    let sheet = match sheet() {
-        Ok(sheet) => sheet,
-        Err(_) => {
-            assert!(rt; false);
-            return;
-        },
-    };
+    let sheet = sheet().expect(&rt, "a sheet");
     let mut buffer = [0u8; 64];
     let mut open = begin(&mut buffer);
     assert_eq!(rt; open.head(&head()), Ok(()));
@@ -46,13 +40,7 @@ fn fault(sheet: &Sheet, sign_type: u8, size: usize) -> Option<Refusal> {
 
 #[test]
 fn faults_are_carried(rt: HostRuntime) {
-    let sheet = match sheet() {
-        Ok(sheet) => sheet,
-        Err(_) => {
-            assert!(rt; false);
-            return;
-        },
-    };
+    let sheet = sheet().expect(&rt, "a sheet");
     assert_eq!(rt; fault(&sheet, 2, 4), None);
     assert_eq!(rt; fault(&sheet, 2, 5), Some(Refusal::NoRoom));
     assert_eq!(rt; fault(&sheet, 16, 4), Some(Refusal::SignForm));

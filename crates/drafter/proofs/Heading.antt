@@ -1,5 +1,5 @@
 -- A header that is set in the buffer.
-use Rattle.std.proofs.Common.{◌≡◌, ℕ, ◌+◌, ◌-◌, ◌<◌, ◌≤◌, true, false, leb, List, [], ◌++◌, length, get_or, Some, None, Ok, Err, Option, sym, refl, ap, ◌∙◌, arith, length-append}
+use Rattle.std.proofs.Common.{◌≡◌, ℕ, ◌+◌, ◌-◌, ◌<◌, ◌≤◌, true, false, leb, List, [], ◌++◌, length, Some, None, Ok, Err, Option, sym, refl, ap, ◌∙◌, arith, length-append}
 use Rattle.std.proofs.lemmas.Bool.{leb-true, le-leb, lt-leb}
 use Rattle.std.proofs.lemmas.List.{nil_from_length}
 use Rattle.wire.specs.declared.refusal.Refusal.{Refusal}
@@ -17,9 +17,8 @@ use Rattle.drafter.specs.declared.state.Core.{Core}
 use Rattle.drafter.specs.Buffers.{HeaderPut}
 use Rattle.drafter.specs.Cores.{header_size, plain_of}
 use Rattle.drafter.specs.Edits.{Editable, first_in, asking, Accepted, Leaves}
-use Rattle.drafter.proofs.Asking.{headless, with_header}
 use Rattle.drafter.proofs.Imaging.{headed_lies, edit_leaves}
-use Rattle.drafter.proofs.Opened.{counted_within, end_counted, open_lies, open_used, front_lies}
+use Rattle.drafter.proofs.Opened.{counted_within, end_counted, open_lies, open_used}
 
 -- the bytes of a header, or none
 abbrev header_part : Option Header → List Payload → List ℕ
@@ -52,17 +51,6 @@ module _ (c : Core) (w : Editable c) where
 
   pub header_within : c.header ≤ c.end
   header_within = omega (arith, end_long)
-
-  pub none_first : c.header ≡ 0 → 0 ≡ first_in c
-  none_first z = sym (ap (first 0) (nil_from_length ps (w.shown.kept.sound.headed (headless c w.shown z))))
-
-  pub byte_first : 0 < c.header → get_or c.buffer.now 2 0 ≡ first_in c
-  byte_first l = let h = with_header c w.shown l in ap (λ x. get_or x 2 0) (front_lies c w h.0 h.1)
-
-  pub two_within : 0 < c.header → 2 < length c.buffer.now
-  two_within l =
-      let h = with_header c w.shown l in
-      omega (arith, w.shown.header ∙ ap header_size h.1, header_within, end_counted c w, counted_within c w)
 
   module _ (h : Header) where
     new_long : length (bytes_of (Some h) ps None) ≡ c.end - c.header + (10 + length h.map_info)
