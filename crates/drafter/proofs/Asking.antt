@@ -16,10 +16,6 @@ use Rattle.drafter.specs.declared.state.Core.{Core}
 use Rattle.drafter.specs.Cores.{header_size, plain_of, Shown}
 use Rattle.drafter.specs.Edits.{asking}
 
-no_header : (o : Option Header) → header_size o ≡ 0 → o ≡ None
-no_header None e = refl
-no_header (Some h) e = absurd (omega arith)
-
 some_header : (o : Option Header) → 0 < header_size o → (h : Header) × (o ≡ Some h)
 some_header None l = absurd (omega arith)
 some_header (Some h) l = (h, refl)
@@ -36,9 +32,6 @@ lengths_inserted ps i p =
 module _ (c : Core) (w : Shown c) where
   abbrev d : Held
   d = (plain_of c).held
-
-  pub headless : c.header ≡ 0 → d.header ≡ None
-  headless e = no_header d.header (sym w.header ∙ e)
 
   pub with_header : 0 < c.header → (h : Header) × (d.header ≡ Some h)
   with_header l = some_header d.header (omega (arith, w.header))
