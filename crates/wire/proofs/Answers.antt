@@ -10,6 +10,9 @@ never_ok f a e = let z : ◌≡◌ {A = ℕ} 0 1 = cc in omega arith
 pub same_ok : {A : Type 0} (a b : A) → ◌≡◌ {A = Answer A} (Ok a) (Ok b) → a ≡ b
 same_ok a b e = cc
 
+pub same_err : {A : Type 0} (f g : Refusal) → ◌≡◌ {A = Answer A} (Err f) (Err g) → f ≡ g
+same_err f g e = cc
+
 pub check_ok : {A : Type 0} (b : Bool) (f : Refusal) (r : Answer A) (a : A) → check b f r ≡ Ok a → (b ≡ true) × (r ≡ Ok a)
 check_ok true f r a e = (refl, e)
 check_ok false f r a e = absurd (never_ok f a e)
@@ -22,14 +25,6 @@ pub ok_or_ok : {A : Type 0} (o : Option A) (f : Refusal) (a : A) → ok_or o f �
 ok_or_ok (Some x) f a e = let q : x ≡ a = same_ok x a e in cc
 ok_or_ok None f a e = absurd (never_ok f a e)
 
-pub map_ok_same : {A B : Type 0} (g h : A → B) → ((a : A) → g a ≡ h a) → (r : Answer A) → map_ok g r ≡ map_ok h r
-map_ok_same g h e (Ok a) = ap Ok (e a)
-map_ok_same g h e (Err f) = refl
-
-pub map_ok_twice : {A B C : Type 0} (g : A → B) (h : B → C) (r : Answer A) → map_ok h (map_ok g r) ≡ map_ok (λ a. h (g a)) r
-map_ok_twice g h (Ok a) = refl
-map_ok_twice g h (Err f) = refl
-
 -- what is behind an answer that was mapped
 pub found : {A B : Type 0} (r : Answer A) (g : A → B) (b : B) → Ok b ≡ map_ok g r → (a : A) × (r ≡ Ok a) × (g a ≡ b)
 found (Ok a) g b e = (a, refl, same_ok (g a) b (sym e))
@@ -37,4 +32,4 @@ found (Err f) g b e = absurd (never_ok f b (sym e))
 
 pub refused : {A B : Type 0} (r : Answer A) (g : A → B) (f : Refusal) → Err f ≡ map_ok g r → r ≡ Err f
 refused (Ok a) g f e = absurd (never_ok f (g a) e)
-refused {B = B} (Err h) g f e = let i : ◌≡◌ {A = Answer B} (Err f) (Err h) = e in let q : h ≡ f = cc in ap Err q
+refused {B = B} (Err h) g f e = ap Err (sym (same_err {A = B} f h e))

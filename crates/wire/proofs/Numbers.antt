@@ -1,11 +1,17 @@
 -- Numbers in bytes, and the bytes at the front of a list.
 use Rattle.std.proofs.Common.{◌≡◌, ℕ, zero, suc, ◌+◌, ◌*◌, ◌/◌, ◌%◌, ◌^◌, ◌<◌, ◌≤◌, List, [], ◌∷◌, ◌++◌, length, get_or, drop, sym, refl, ap, ◌∙◌, subst, inl, inr, div-add-mod', zero-add, arith, length-drop, take_at}
-use Rattle.std.proofs.ByRecursion.{All-get_or, All-take}
+use Rattle.std.proofs.ByRecursion.{All-get_or, All-take, All-from_get_or}
 use Rattle.std.proofs.lemmas.List.{drop_more, get_or_append_left, get_or-append-add, get_or_past}
 use Rattle.std.proofs.lemmas.Bool.{cases_lt}
 use lib.Arith.{digits_lt, digits_div, digits_mod}
 use native.Mathlib.Nat.{pow-succ'}
+use mir.Syntax.{w8}
+use mir.Val.{Fits}
 use Rattle.wire.specs.Octets.{Octets, in_bytes, value_at, sized}
+
+-- the bytes of a slice, as its type says of each place
+pub octets : (bs : List ℕ) → ((k : ℕ) → Fits w8 (get_or bs k 0)) → Octets bs
+octets bs fits = All-from_get_or (λ b. b < 256) bs 0 (λ k h. omega (arith, fits k))
 
 -- the n bytes from `at` on, one by one
 abbrev pub firsts : ℕ → ℕ → List ℕ → List ℕ

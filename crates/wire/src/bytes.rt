@@ -6,11 +6,11 @@ ghost use Rattle.wire.specs.Octets.{Octets};
 pub fn byte_at(bytes: &[u8], at: usize) -> u8
     ensures { result ≡ slice_index bytes.now at }
 {
-    if at < bytes.len() { bytes[at] } else { 0 }
+    bytes.get(at).copied().unwrap_or(0)
 }
 
-// Says of the bytes that each is below 256, for the calls that ask for it. It passes by each byte and does nothing with it, so
-// that it compiles to nothing.
+// Says of the bytes that each is below 256. Of a slice that is a parameter its type says so; of one in a field a proof knows it only
+// if the bytes are read. This reads each and does nothing with it, so that it compiles to nothing.
 pub fn octets(bytes: &[u8])
     ensures { Octets bytes.now }
 {

@@ -1,16 +1,19 @@
 // The kinds of payload, and the code that names each.
 ghost use Rattle.std.specs.Prelude.{◌≡◌};
-ghost use Rattle.wire.specs.Kinds.{kind_of};
+ghost use Rattle.wire.specs.Kinds.{code_of, kind_of};
+ghost use Rattle.wire.specs.Numbered.{Names};
+
+use crate::number::UnknownNumber;
 
 #[derive(Clone, Copy, PartialEq, Eq, Debug)]
 pub enum Kind {
-    T,
-    Rand,
-    Idr,
-    Sp,
-    Sakke,
-    Ext,
-    Sign,
+    T = 5,
+    Rand = 11,
+    Idr = 14,
+    Sp = 10,
+    Sakke = 26,
+    Ext = 21,
+    Sign = 4,
 }
 
 impl Kind {
@@ -28,5 +31,22 @@ impl Kind {
             26 => Some(Kind::Sakke),
             _ => None,
         }
+    }
+
+    // The code that names it.
+    pub const fn code(self) -> u8
+        ensures { result ≡ code_of self }
+    {
+        self as u8
+    }
+}
+
+impl TryFrom<u8> for Kind {
+    type Error = UnknownNumber;
+
+    ghost try_from_gives = { Names code_of };
+
+    fn try_from(code: u8) -> Result<Kind, UnknownNumber> {
+        Kind::of(code).ok_or(UnknownNumber { number: code })
     }
 }

@@ -2,12 +2,20 @@
 #![tactic(auto)]
 
 mod bytes;
+mod field;
 mod kind;
+mod limits;
+mod number;
 mod refusal;
 mod row;
+mod slot;
 mod words;
 
 pub use bytes::{byte_at, octets};
+pub use field::Field;
 pub use kind::Kind;
+pub use limits::{LONGEST, MOST_PAYLOADS, SAKKE_MESSAGE, VERSION};
+pub use number::UnknownNumber;
 pub use refusal::{Refusal, Told};
 pub use row::{Row, Walked};
+pub use slot::Slot;

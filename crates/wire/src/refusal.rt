@@ -1,6 +1,9 @@
-// Refusals: a variant for each, with the values that vary in it.
+// Refusals: a variant for each, with the values that vary in it. Fields and slots are told by number, since a profile is asked for every
+// number from 0 to 255.
 ghost use Rattle.std.specs.Prelude.{◌≡◌};
 ghost use Rattle.wire.specs.Refusals.{told};
+
+use std::fmt;
 
 #[derive(Clone, Copy, PartialEq, Eq, Debug)]
 pub enum Refusal {
@@ -92,5 +95,20 @@ impl Refusal {
             Refusal::SheetLine(place) => tells(30, place, 0),
             Refusal::SheetBounds(place) => tells(31, place, 0),
         }
+    }
+}
+
+impl From<Refusal> for Told {
+    ghost from_gives = { λ refusal t. t ≡ told refusal };
+
+    fn from(refusal: Refusal) -> Told {
+        refusal.told()
+    }
+}
+
+// As programs print it.
+impl fmt::Display for Told {
+    fn fmt<W: fmt::Write>(&self, f: &mut fmt::Formatter<W>) -> fmt::Result {
+        write!(f, "{} {} {}", self.number, self.place, self.detail)
     }
 }

@@ -1,4 +1,9 @@
-// What a walk tells of a message: a row for each payload, and three numbers.
+// What a walk tells of a message: a row for each payload, and three numbers. Code and slot are numbers here and no enums, since calls
+// take rows of any numbers.
+ghost use Rattle.std.specs.Prelude.{◌≡◌, ◌+◌};
+
+use std::ops::Range;
+
 #[derive(Clone, Copy, PartialEq, Eq, Debug)]
 pub struct Row {
     pub code: u8,
@@ -15,6 +20,15 @@ impl Row {
         start: 0,
         length: 0,
     };
+
+    // Where the payload lies in its message.
+    pub fn range(&self) -> Range<usize>
+        ensures start { result.start ≡ self.now.start }
+        ensures end { result.end ≡ self.now.start + self.now.length }
+    {
+        let start = self.start as usize;
+        start..start + self.length as usize
+    }
 }
 
 // The number of payloads with SIGN, the length of the header, and that of the span: all before the signature.

@@ -1,5 +1,7 @@
 // Refusals in words, for the people who read what programs print.
+use crate::field::Field;
 use crate::refusal::Refusal;
+use crate::slot::Slot;
 use std::fmt;
 
 fn words(refusal: &Refusal) -> &'static str {
@@ -39,37 +41,16 @@ fn words(refusal: &Refusal) -> &'static str {
     }
 }
 
-// What a payload in a slot is.
-fn slot_words(slot: u8) -> &'static str {
-    match slot {
-        1 => "T",
-        2 => "RAND",
-        3 => "IDR of role 1",
-        4 => "IDR of role 2",
-        5 => "IDR of role 6",
-        6 => "IDR of role 7",
-        7 => "SP",
-        8 => "SAKKE",
-        9 => "EXT of type 6",
-        10 => "EXT of type 7",
-        11 => "SIGN",
-        _ => "another IDR or EXT",
-    }
+// What a payload in a slot is. A number that no slot has is told as that of any other payload.
+fn write_slot<W: fmt::Write>(f: &mut fmt::Formatter<W>, slot: u8) -> fmt::Result {
+    let slot = Slot::try_from(slot).unwrap_or(Slot::Other);
+    write!(f, ": {slot}")
 }
 
-fn field_words(field: u8) -> &'static str {
-    match field {
-        1 => "V",
-        2 => "PRF func",
-        3 => "the purpose",
-        4 => "#CS",
-        5 => "RAND len",
-        6 => "ID type",
-        7 => "Prot type",
-        8 => "SAKKE params",
-        9 => "ID scheme",
-        10 => "S type",
-        _ => "an unknown field",
+fn write_field<W: fmt::Write>(f: &mut fmt::Formatter<W>, field: u8) -> fmt::Result {
+    match Field::try_from(field) {
+        Ok(field) => write!(f, ": {field}"),
+        Err(_) => f.write_str(": an unknown field"),
     }
 }
 
@@ -81,25 +62,22 @@ fn write_place<W: fmt::Write>(f: &mut fmt::Formatter<W>, place: usize) -> fmt::R
     write!(f, ", byte {place}")
 }
 
+impl std::error::Error for Refusal {}
+
 impl fmt::Display for Refusal {
     fn fmt<W: fmt::Write>(&self, f: &mut fmt::Formatter<W>) -> fmt::Result {
         f.write_str(words(self))?;
         match self {
             Refusal::FieldNotTaken { byte, field } => {
-                write!(f, ": {}", field_words(*field))?;
+                write_field(f, *field)?;
                 write_place(f, *byte)
             }
-            Refusal::RankFalls { start, slot } => {
-                write!(f, ": {}", slot_words(*slot))?;
+            Refusal::RankFalls { start, slot } | Refusal::AboveMost { start, slot } => {
+                write_slot(f, *slot)?;
                 write_place(f, *start)
             }
-            Refusal::AboveMost { start, slot } => {
-                write!(f, ": {}", slot_words(*slot))?;
-                write_place(f, *start)
-            }
-            Refusal::BelowLeast { slot, .. } => write!(f, ": {}", slot_words(*slot)),
-            Refusal::TooLong => Ok(()),
-            Refusal::TooShort(_) => Ok(()),
+            Refusal::BelowLeast { slot, .. } => write_slot(f, *slot),
+            Refusal::TooLong | Refusal::TooShort(_) => Ok(()),
             _ => write_place(f, self.told().place),
         }
     }

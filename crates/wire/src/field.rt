@@ -1,0 +1,67 @@
+// The fields that a profile is asked about, by their numbers.
+ghost use Rattle.std.specs.Prelude.{◌≡◌};
+ghost use Rattle.wire.specs.Numbered.{Names, field_number};
+
+use crate::number::UnknownNumber;
+use std::fmt;
+
+#[derive(Clone, Copy, PartialEq, Eq, Debug)]
+pub enum Field {
+    Version = 1,
+    Prf = 2,
+    Purpose = 3,
+    Sessions = 4,
+    RandLength = 5,
+    IdType = 6,
+    Protocol = 7,
+    SakkeParams = 8,
+    IdScheme = 9,
+    SignType = 10,
+}
+
+impl Field {
+    pub const fn number(self) -> u8
+        ensures { result ≡ field_number self }
+    {
+        self as u8
+    }
+}
+
+impl TryFrom<u8> for Field {
+    type Error = UnknownNumber;
+
+    ghost try_from_gives = { Names field_number };
+
+    fn try_from(number: u8) -> Result<Field, UnknownNumber> {
+        match number {
+            1 => Ok(Field::Version),
+            2 => Ok(Field::Prf),
+            3 => Ok(Field::Purpose),
+            4 => Ok(Field::Sessions),
+            5 => Ok(Field::RandLength),
+            6 => Ok(Field::IdType),
+            7 => Ok(Field::Protocol),
+            8 => Ok(Field::SakkeParams),
+            9 => Ok(Field::IdScheme),
+            10 => Ok(Field::SignType),
+            _ => Err(UnknownNumber { number }),
+        }
+    }
+}
+
+impl fmt::Display for Field {
+    fn fmt<W: fmt::Write>(&self, f: &mut fmt::Formatter<W>) -> fmt::Result {
+        f.write_str(match self {
+            Field::Version => "V",
+            Field::Prf => "PRF func",
+            Field::Purpose => "the purpose",
+            Field::Sessions => "#CS",
+            Field::RandLength => "RAND len",
+            Field::IdType => "ID type",
+            Field::Protocol => "Prot type",
+            Field::SakkeParams => "SAKKE params",
+            Field::IdScheme => "ID scheme",
+            Field::SignType => "S type",
+        })
+    }
+}

@@ -1,0 +1,13 @@
+// Numbers that the format fixes.
+
+// The first byte of a message.
+pub const VERSION: u8 = 1;
+
+// The second: its data type.
+pub const SAKKE_MESSAGE: u8 = 26;
+
+// The longest message, and how many bytes of a draft's buffer count at most.
+pub const LONGEST: usize = 8192;
+
+// How many payloads a message may have, SIGN among them, and how many rows a table.
+pub const MOST_PAYLOADS: usize = 24;
