@@ -1,14 +1,11 @@
 -- Sessions in a row, by where they end.
-use Rattle.std.proofs.Common.{◌≡◌, ℕ, suc, ◌+◌, ◌-◌, ◌<◌, ◌≤◌, List, ◌++◌, length, take, drop, Ok, Err, sym, refl, ap, ◌∙◌, arith, length-append, length-drop, drop-drop}
+use Rattle.std.proofs.Common.{◌≡◌, ℕ, suc, ◌+◌, ◌-◌, ◌<◌, ◌≤◌, List, ◌++◌, length, take, drop, Ok, Err, sym, refl, ap, ◌∙◌, arith, length-append, drop-drop}
 use Rattle.std.proofs.lemmas.List.{take_rest}
 use Rattle.wire.specs.declared.refusal.Refusal.{Refusal}
-use Rattle.wire.specs.declared.refusal.Refusal.TheVariants.{SessionCut, SessionRule}
 use Rattle.wire.specs.Answers.{Answer, map_ok, and_then}
-use Rattle.wire.specs.Extents.{session_at, session_extent, session_inside}
+use Rattle.wire.specs.Extents.{session_at}
 use Rattle.wire.specs.Walking.{sessions}
 use Rattle.wire.proofs.Answers.{found, refused}
-use Rattle.wire.proofs.Parts.{part_back}
-use Rattle.wire.proofs.Extents.{session_local}
 
 -- the turns of the loop: i of the sessions end at `at`
 module _ (bs : List ℕ) (count i at : ℕ) where
@@ -40,12 +37,6 @@ module _ (bs : List ℕ) (count i at : ℕ) where
   pub session_bad : i < count → (f : Refusal) → Err f ≡ map_ok length Front → Err f ≡ Left
   unfolding sessions
   session_bad h f e = rw (one_more h, refused (session_at at (drop at bs)) length f (e ∙ ap (map_ok length) front_is))
-
-  pub session_fits : (n : ℕ) → Ok n ≡ map_ok length Front → n ≤ length bs - at
-  session_fits n e =
-      let p = found (session_at at (drop at bs)) length n (e ∙ ap (map_ok length) front_is) in
-      let w = part_back session_extent session_inside (SessionCut at) (SessionRule at) session_local (drop at bs) p.0 p.1 in
-      omega (arith, p.2, ap length w.1, length-append p.0 (drop (length p.0) (drop at bs)), length-drop at bs)
 
   pub sessions_end : count ≤ i → Ok at ≡ Left
   unfolding sessions

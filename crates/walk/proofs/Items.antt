@@ -1,6 +1,6 @@
 -- The items of a security policy, one after the other.
-use Rattle.std.proofs.Common.{◌≡◌, ℕ, zero, suc, ◌+◌, ◌-◌, ◌<◌, ◌≤◌, true, false, List, [], ◌∷◌, length, get_or, drop, sym, refl, ap, ◌∙◌, arith, length-drop, drop-drop}
-use Rattle.std.proofs.lemmas.List.{drop_more, drop_all}
+use Rattle.std.proofs.Common.{◌≡◌, ℕ, zero, suc, ◌-◌, ◌<◌, ◌≤◌, false, List, [], ◌∷◌, length, get_or, take, drop, sym, refl, ap, ◌∙◌, arith}
+use Rattle.std.proofs.lemmas.List.{take_rest}
 use Rattle.wire.specs.Extents.{items}
 
 past_value : (n : ℕ) (bs : List ℕ) → n ≤ length bs → items n bs ≡ items 0 (drop n bs)
@@ -13,24 +13,19 @@ short_value zero bs h = absurd (omega arith)
 short_value (suc n) [] h = refl
 short_value (suc n) (b ∷ bs) h = short_value n bs (omega arith)
 
--- the item at `at`, of whose value the length is n
-module _ (xs : List ℕ) (at n : ℕ) where
-  head : at + 1 < length xs → n ≡ get_or xs (at + 1) 0 → items 0 (drop at xs) ≡ items n (drop (at + 1 + 1) xs)
-  head h e =
-      ap (items 0) (drop_more xs at 0 (omega arith) ∙ ap (λ x. get_or xs at 0 ∷ x) (drop_more xs (at + 1) 0 h))
-      ∙ ap (λ x. items x (drop (at + 1 + 1) xs)) (sym e)
+-- the item at the front
+head : (bs : List ℕ) → 2 ≤ length bs → items 0 bs ≡ items (get_or bs 1 0) (drop 2 bs)
+head [] h = absurd (omega arith)
+head (type ∷ []) h = absurd (omega arith)
+head (type ∷ n ∷ bs) h = refl
 
-  pub item_next : at + 1 < length xs → n ≡ get_or xs (at + 1) 0 → n ≤ length xs - at - 2 → items 0 (drop (at + (2 + n)) xs) ≡ items 0 (drop at xs)
-  item_next h e l =
-      let d : at + 1 + 1 + n ≡ at + (2 + n) = omega arith in
-      sym (head h e ∙ past_value n (drop (at + 1 + 1) xs) (simp length-drop (omega arith)) ∙ ap (items 0) (drop-drop n (at + 1 + 1) xs ∙ ap (λ x. drop x xs) d))
+-- what stands behind its type and length, of which the value takes n bytes
+module _ (bs after : List ℕ) (some : 2 ≤ length bs) (e : after ≡ drop 2 bs) where
+  abbrev n : ℕ
+  n = get_or bs 1 0
 
-  pub item_cut : at + 1 < length xs → n ≡ get_or xs (at + 1) 0 → length xs - at - 2 < n → false ≡ items 0 (drop at xs)
-  item_cut h e l = sym (head h e ∙ short_value n (drop (at + 1 + 1) xs) (simp length-drop (omega arith)))
+  pub item_next : (next : List ℕ) → n ≤ length after → next ≡ take (length after - n) (drop n after) → items 0 next ≡ items 0 bs
+  item_next next h is = ap (items 0) (is ∙ take_rest after n) ∙ sym (head bs some ∙ ap (items n) (sym e) ∙ past_value n after h)
 
-pub item_alone : (xs : List ℕ) (at : ℕ) → at < length xs → length xs - at < 2 → false ≡ items 0 (drop at xs)
-item_alone xs at h l =
-    sym (ap (items 0) (drop_more xs at 0 h ∙ ap (λ x. get_or xs at 0 ∷ x) (drop_all (at + 1) xs (omega arith))))
-
-pub items_end : (xs : List ℕ) (at : ℕ) → length xs ≤ at → true ≡ items 0 (drop at xs)
-items_end xs at h = sym (ap (items 0) (drop_all at xs h))
+  pub item_cut : length after < n → false ≡ items 0 bs
+  item_cut h = sym (head bs some ∙ ap (items n) (sym e) ∙ short_value n after h)

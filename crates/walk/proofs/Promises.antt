@@ -1,8 +1,6 @@
 -- What walk promises follows from what it answers and leaves.
-use Rattle.std.proofs.Common.{◌≡◌, ℕ, ◌-◌, ◌<◌, ◌≤◌, true, false, leb, List, ◌++◌, length, take, drop, replicate, Ok, Err, sym, refl, ap, ◌∙◌, subst, take_at}
-use Rattle.std.proofs.lemmas.Bool.{le-leb, lt-leb}
-use Rattle.wire.specs.declared.refusal.Refusal.{Refusal}
-use Rattle.wire.specs.declared.refusal.Refusal.TheVariants.{FewRows}
+use Rattle.std.proofs.Common.{◌≡◌, ℕ, ◌-◌, true, leb, List, ◌++◌, length, take, drop, replicate, Ok, sym, refl, ap, ◌∙◌, subst, take_at}
+use Rattle.std.proofs.lemmas.Bool.{le-leb}
 use Rattle.wire.specs.declared.row.Row.{Row}
 use Rattle.wire.specs.declared.row.Walked.{Walked}
 use Rattle.wire.specs.Octets.{Octets}
@@ -52,28 +50,14 @@ module _ (bytes : List ℕ) (before after : List Row) (answer : Answer Walked) (
     unchanged = λ f e. leaves ∙ ap (λ x. tabled x before) (refused (walking_into (length before) bytes) walked_of f (sym e ∙ says));
   }
 
--- the ways out of walk
-pub few_rows : (bytes : List ℕ) (before : List Row) → length before < 24
-    → (◌≡◌ {A = Answer Walked} (Err FewRows) (map_ok walked_of (walking_into (length before) bytes))) × (before ≡ tabled (walking_into (length before) bytes) before)
-few_rows bytes before h = let t : leb 24 (length before) ≡ false = lt-leb 24 (length before) h in (rw t, rw t)
-
-module _ (bytes : List ℕ) (before : List Row) (h : 24 ≤ length before) where
-  enough : walking_into (length before) bytes ≡ walking bytes
-  enough = let t : leb 24 (length before) ≡ true = le-leb 24 (length before) h in rw t
-
-  pub scan_refused : (f : Refusal) → Err f ≡ map_ok walked_of (walking bytes)
-      → (◌≡◌ {A = Answer Walked} (Err f) (map_ok walked_of (walking_into (length before) bytes))) × (before ≡ tabled (walking_into (length before) bytes) before)
-  scan_refused f e =
-      (e ∙ ap (map_ok walked_of) (sym enough), sym (ap (λ x. tabled x before) (enough ∙ refused (walking bytes) walked_of f e)))
-
-  pub scan_accepted : (w : Walked) (table after : List Row) → Ok w ≡ map_ok walked_of (walking bytes) → HoldsRows (walking bytes) table
-      → after ≡ take w.count table ++ (replicate (24 - w.count) blank ++ drop 24 before)
-      → (◌≡◌ {A = Answer Walked} (Ok w) (map_ok walked_of (walking_into (length before) bytes))) × (after ≡ tabled (walking_into (length before) bytes) before)
-  scan_accepted w table after e holds is =
-      let f = found (walking bytes) walked_of w e in
-      let m : Message = f.0 in
-      let n : length (rows m) ≡ w.count = rows_count (header_length m) (pieces m) ∙ ap (λ x. x.count) f.2 in
-      let first : take (length (rows m)) table ≡ rows m = subst (λ x. HoldsRows x table) f.1 holds in
-      let all : after ≡ filled m before =
-      is ∙ ap (λ x. take x table ++ (replicate (24 - x) blank ++ drop 24 before)) (sym n) ∙ ap (λ x. x ++ (replicate (24 - length (rows m)) blank ++ drop 24 before)) first in
-      (e ∙ ap (map_ok walked_of) (sym enough), all ∙ sym (ap (λ x. tabled x before) (enough ∙ f.1)))
+-- the rows of a scan that is accepted, once they are copied and blanked
+pub copied : (bytes : List ℕ) (before : List Row) (w : Walked) (table after : List Row) → Ok w ≡ map_ok walked_of (walking bytes) → HoldsRows (walking bytes) table
+    → after ≡ take w.count table ++ (replicate (24 - w.count) blank ++ drop 24 before) → after ≡ tabled (walking bytes) before
+copied bytes before w table after e holds is =
+    let f = found (walking bytes) walked_of w e in
+    let m : Message = f.0 in
+    let n : length (rows m) ≡ w.count = rows_count (header_length m) (pieces m) ∙ ap (λ x. x.count) f.2 in
+    let first : take (length (rows m)) table ≡ rows m = subst (λ x. HoldsRows x table) f.1 holds in
+    let all : after ≡ filled m before =
+    is ∙ ap (λ x. take x table ++ (replicate (24 - x) blank ++ drop 24 before)) (sym n) ∙ ap (λ x. x ++ (replicate (24 - length (rows m)) blank ++ drop 24 before)) first in
+    all ∙ sym (ap (λ x. tabled x before) f.1)

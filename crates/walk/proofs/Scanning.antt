@@ -1,24 +1,25 @@
 -- One payload of a chain, and its row.
-use Rattle.std.proofs.Common.{◌≡◌, ℕ, zero, suc, ◌+◌, ◌-◌, ◌<◌, ◌≤◌, false, List, [], ◌∷◌, ◌++◌, length, get_or, take, drop, set, Ok, Err, sym, refl, ap, ◌∙◌, subst, ap₂, append_assoc, arith, length-drop, length-take-le, drop-drop}
-use Rattle.std.proofs.lemmas.List.{get_or-drop, get_or_append_left, take_more_set, length_push}
+use Rattle.std.proofs.Common.{◌≡◌, ℕ, zero, suc, ◌+◌, ◌-◌, ◌<◌, ◌≤◌, false, List, [], ◌∷◌, ◌++◌, length, get_or, take, drop, Ok, Err, sym, refl, ap, ◌∙◌, append_assoc, arith, length-drop, drop-drop}
+use Rattle.std.proofs.lemmas.List.{get_or-drop, get_or_append_left}
 use Rattle.wire.specs.declared.kind.Kind.{Kind}
 use Rattle.wire.specs.declared.kind.Kind.TheVariants.{Sign}
 use Rattle.wire.specs.declared.refusal.Refusal.{Refusal}
-use Rattle.wire.specs.declared.refusal.Refusal.TheVariants.{UnknownCode, ExtraPayload}
+use Rattle.wire.specs.declared.refusal.Refusal.TheVariants.{ExtraPayload}
 use Rattle.wire.specs.declared.row.Row.{Row}
-use Rattle.wire.specs.Kinds.{code_of, kind_of, is_sign, lead}
+use Rattle.wire.specs.Kinds.{code_of, is_sign, lead}
 use Rattle.wire.specs.Messages.{with_sign}
 use Rattle.wire.specs.Rows.{slot_of, sizes, rows_from}
 use Rattle.wire.specs.Answers.{Answer, map_ok, and_then}
 use Rattle.wire.specs.Extents.{body_at}
 use Rattle.wire.specs.Walking.{Chain, chain, kind_at, signed, behind}
-use Rattle.wire.proofs.Answers.{found, refused, ok_or_ok}
-use Rattle.wire.proofs.Codes.{code_kind}
+use Rattle.wire.proofs.Answers.{found, refused}
 use Rattle.wire.proofs.Chains.{body_back}
 use Rattle.wire.proofs.Extents.{extent_some}
-use Rattle.walk.specs.declared.chain.Links.{Links}
-use Rattle.walk.specs.Scans.{Scan, scan_of, links_of, Holds}
-use Rattle.walk.proofs.Bodies.{PayloadLength}
+use Rattle.walk.specs.Scans.{Scan, scan_of}
+
+-- the payload at `at`, by its length
+abbrev pub PayloadLength : List ℕ → Kind → ℕ → Answer ℕ
+PayloadLength m k at = map_ok (λ p. lead k + length p) (body_at k at (drop (lead k) (drop at m)))
 
 chain_unknown : (left code naming at : ℕ) (bs : List ℕ) (f : Refusal) → kind_at code naming ≡ Err f → chain left code naming at bs ≡ Err f
 unfolding chain
@@ -79,9 +80,6 @@ module _ (m : List ℕ) (table : List Row) (i naming at : ℕ) where
     abbrev rest : List ℕ
     rest = drop (lead k) (drop at m)
 
-    code_is : code_of k ≡ code
-    code_is = code_kind code k (ok_or_ok (kind_of code) (UnknownCode naming) k (sym e))
-
     step_refused : (f : Refusal) → body_at k at rest ≡ Err f → chain (24 - i) code naming at (drop at m) ≡ Err f
     unfolding chain
     step_refused f b = let n : 24 - i ≡ suc (24 - (i + 1)) = omega arith in rw (n, ← e, b)
@@ -106,40 +104,26 @@ module _ (m : List ℕ) (table : List Row) (i naming at : ℕ) where
         sym (get_or_append_left body (drop (length body) rest) 0 0 some) ∙ ap (λ x. get_or x 0 0) (sym w.1 ∙ drop-drop (lead k) at m)
         ∙ get_or-drop (at + lead k) m 0 0 ∙ ap (λ x. get_or m x 0) z
 
-    pub next_row : (n slot : ℕ) → is_sign k ≡ false → Ok n ≡ PayloadLength m k at → slot ≡ slot_of k (get_or m (at + 1) 0)
-        → map_ok (scan_of (take i table ++ (row_of code slot at n ∷ [])) (at + n)) (chain (24 - (i + 1)) (get_or m at 0) at (at + n) (drop (at + n) m)) ≡ Left
-    next_row n slot s r q =
+    pub next_row : (n : ℕ) (row : Row) → is_sign k ≡ false → Ok n ≡ PayloadLength m k at → row ≡ row_of (code_of k) (slot_of k (get_or m (at + 1) 0)) at n
+        → map_ok (scan_of (take i table ++ (row ∷ [])) (at + n)) (chain (24 - (i + 1)) (get_or m at 0) at (at + n) (drop (at + n) m)) ≡ Left
+    next_row n row s r q =
         let p = found (body_at k at rest) (λ p. lead k + length p) n r in
         let body : List ℕ = p.0 in
         let g : get_or (drop at m) 0 0 ≡ get_or m at 0 = get_or-drop at m 0 0 ∙ (let z : at + 0 ≡ at = omega arith in ap (λ x. get_or m x 0) z) in
         sym (ap (map_ok (scan_of (take i table) at)) (step_next body s p.1) ∙ behind_scans (take i table) at k body _
-        ∙ rw (p.2, code_is, first_byte body s p.1, ← q, g, drop-drop n at m))
+        ∙ rw (p.2, first_byte body s p.1, ← q, g, drop-drop n at m))
 
   step_sign : (body : List ℕ) → i < 24 → Ok Sign ≡ kind_at code naming → body_at Sign at (drop at m) ≡ Ok body
       → chain (24 - i) code naming at (drop at m) ≡ Ok (signed body (drop (0 + length body) (drop at m)))
   unfolding chain
   step_sign body h e b = let n : 24 - i ≡ suc (24 - (i + 1)) = omega arith in rw (n, ← e, b)
 
-  abbrev last : ℕ → ℕ → ℕ → Answer Scan
-  last c slot n = Ok (record { rows = take i table ++ (row_of c slot at n ∷ []); sign = at; end = at + n })
-
-  pub sign_row : (n slot : ℕ) → i < 24 → Ok Sign ≡ kind_at code naming → Ok n ≡ PayloadLength m Sign at → slot ≡ 11 → last code slot n ≡ Left
-  sign_row n slot h e r q =
+  pub sign_row : (n : ℕ) (row : Row) → i < 24 → Ok Sign ≡ kind_at code naming → Ok n ≡ PayloadLength m Sign at → row ≡ row_of 4 11 at n
+      → Ok (record { rows = take i table ++ (row ∷ []); sign = at; end = at + n }) ≡ Left
+  sign_row n row h e r q =
       let p = found (body_at Sign at (drop at m)) (λ p. 0 + length p) n r in
       let body : List ℕ = p.0 in
       let w = body_back Sign at (drop at m) body p.1 in
       sym (ap (map_ok (scan_of (take i table) at)) (step_sign body h e p.1)
       ∙ ap Ok (sign_scan (take i table) at body (drop (0 + length body) (drop at m)) (omega (arith, w.0.ends)))
-      ∙ ap₂ (λ c n. last c 11 n) (code_is h Sign e) p.2 ∙ ap (λ x. last code x n) (sym q))
-
--- what is told of a scan that is refused, and of one that ends with a row
-pub told_refused : (s : Answer Scan) (table : List Row) (f : Refusal) → Err f ≡ s → (◌≡◌ {A = Answer Links} (Err f) (map_ok links_of s)) × Holds s table
-told_refused s table f e = (ap (map_ok links_of) e, subst (λ r. Holds r table) e tt)
-
-pub told_last : (s : Answer Scan) (table : List Row) (i : ℕ) (row : Row) (sign end : ℕ) → i < length table → Ok (record { rows = take i table ++ (row ∷ []); sign = sign; end = end }) ≡ s
-    → (◌≡◌ {A = Answer Links} (Ok (record { count = i + 1; sign = sign; end = end })) (map_ok links_of s)) × Holds s (set table i row)
-told_last s table i row sign end h e =
-    let n : length (take i table ++ (row ∷ [])) ≡ i + 1 = length_push (take i table) row ∙ ap (λ x. x + 1) (length-take-le i table (omega arith)) in (
-      ap (λ x. Ok (record { count = x; sign = sign; end = end })) (sym n) ∙ ap (map_ok links_of) e,
-      subst (λ r. Holds r (set table i row)) e (ap (λ x. take x (set table i row)) n ∙ take_more_set table i row h),
-    )
+      ∙ rw (p.2, ← q))

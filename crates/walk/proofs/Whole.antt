@@ -1,5 +1,5 @@
 -- A whole message behind its header and its chain of payloads.
-use Rattle.std.proofs.Common.{◌≡◌, ℕ, ◌+◌, ◌-◌, ◌<◌, ◌≤◌, true, false, leb, List, [], ◌++◌, length, get_or, take, drop, Ok, Err, sym, ap, ◌∙◌, subst, ap₂, arith, length-append, length-drop}
+use Rattle.std.proofs.Common.{◌≡◌, ℕ, ◌+◌, ◌-◌, ◌<◌, ◌≤◌, true, false, leb, List, [], ◌++◌, length, get_or, take, drop, Ok, Err, sym, ap, ◌∙◌, subst, arith, length-append, length-drop}
 use Rattle.std.proofs.ByRecursion.{All-drop}
 use Rattle.std.proofs.lemmas.Bool.{le-leb, lt-leb}
 use Rattle.wire.specs.declared.refusal.Refusal.TheVariants.{BytesLeft}
@@ -23,15 +23,12 @@ chain_length left code bs c b =
     omega (arith, ap length b.is, length-append (payloads_bytes 4 c.payloads) (sign ++ c.after), length-append sign c.after, payloads_length 4 c.payloads b.payloads)
 
 -- a header that is found, and the chain behind it
-module _ (m info : List ℕ) (short : length m ≤ 8192) (head : heading m ≡ Ok info) where
-  abbrev from : ℕ
-  from = 10 + length info
-
+module _ (m info : List ℕ) (from : ℕ) (short : length m ≤ 8192) (head : heading m ≡ Ok info) (is : 10 + length info ≡ from) where
   abbrev after_chain : Chain → Answer Message
   after_chain c = check (leb (length c.after) 0) (BytesLeft (length m - length c.after)) (Ok (message_of (header_of m info) c))
 
   walking_is : walking m ≡ and_then (chain 24 (get_or m 2 0) 2 from (drop from m)) after_chain
-  walking_is = let s : leb (length m) 8192 ≡ true = le-leb _ _ short in rw (s, head)
+  walking_is = let s : leb (length m) 8192 ≡ true = le-leb _ _ short in rw (s, head, is)
 
   module _ (y : Octets m) (fits : from ≤ length m) (l : Links) (e : Ok l ≡ map_ok links_of (scanning m from)) where
     scan : Scan
@@ -82,17 +79,17 @@ module _ (m info : List ℕ) (short : length m ≤ 8192) (head : heading m ≡ O
 
     rows_are : scan.rows ≡ rows message
     unfolding scan_of
-    rows_are = sym (ap (λ x. x.rows) scan_of_lem)
+    rows_are = rw is (sym (ap (λ x. x.rows) scan_of_lem))
 
     numbers_are : walked_of message ≡ record { count = l.count; header = from; span = l.sign + 2 }
     unfolding scan_of
     numbers_are =
         let count : length (pieces message) ≡ l.count =
-        sym (rows_count from (pieces message)) ∙ ap length (sym rows_are) ∙ ap (λ x. x.count) links_are in
+        sym (rows_count (10 + length info) (pieces message)) ∙ ap length (sym rows_are) ∙ ap (λ x. x.count) links_are in
         let a : scan.sign ≡ l.sign = ap (λ x. x.sign) links_are in
         let b : from + sizes whole.payloads ≡ scan.sign = ap (λ x. x.sign) scan_of_lem in
-        let end : length (span message) ≡ l.sign + 2 = omega (arith, span_length message back.payloads) in
-        ap₂ (λ n s. record { count = n; header = from; span = s }) count end
+        let end : length (span message) ≡ l.sign + 2 = omega (arith, span_length message back.payloads, is) in
+        rw (is, count, end)
 
     pub whole_message : (table : List Row) → length m ≤ l.end → Holds (scanning m from) table
         → (◌≡◌ {A = Answer Walked} (Ok (record { count = l.count; header = from; span = l.sign + 2 })) (map_ok walked_of (walking m))) × HoldsRows (walking m) table

@@ -4,28 +4,24 @@ ghost use Rattle.wire.specs.Answers.{map_ok};
 ghost use Rattle.wire.specs.Walking.{heading};
 
 use crate::session::{map_fits, sessions};
-use wire::Refusal;
-
-const VERSION: u8 = 1;
-
-const SAKKE_MESSAGE: u8 = 26;
+use wire::{Refusal, SAKKE_MESSAGE, VERSION};
 
 // The length of the header: ten fixed bytes, then the sessions of its map.
 pub(crate) fn header(message: &[u8]) -> Result<usize, Refusal>
     ensures answer { result ≡ map_ok (λ info. 10 + length info) (heading message.now) }
     ensures within { IfOk result (λ n. (10 ≤ n) × (n ≤ length message.now)) }
 {
-    if message.len() < 10 {
+    let [version, data_type, _, _, _, _, _, _, cs, map_type, ..] = message else {
         return Err(Refusal::TooShort(message.len()));
-    }
-    if message[0] != VERSION {
+    };
+    if *version != VERSION {
         return Err(Refusal::Version);
     }
-    if message[1] != SAKKE_MESSAGE {
+    if *data_type != SAKKE_MESSAGE {
         return Err(Refusal::DataType);
     }
-    if !map_fits(message[8], message[9]) {
+    if !map_fits(*cs, *map_type) {
         return Err(Refusal::SessionMap(8));
     }
-    sessions(message[8], 10, message)
+    sessions(*cs, 10, message)
 }

@@ -4,12 +4,13 @@ ghost use Rattle.wire.specs.Answers.{map_ok};
 ghost use Rattle.wire.specs.Octets.{value_at};
 ghost use Rattle.wire.specs.Extents.{extent, inside, items, one_sakke, body_at};
 
+use crate::marked::{Layout, part_length};
 use wire::{Kind, Refusal, byte_at};
 
 // The EXT type whose content is one SAKKE payload.
-const WRAPPING: usize = 6;
+const WRAPPING: u8 = 6;
 
-// The byte at a place as a length.
+// The byte at a place as a length: each use adds lengths, and `small` says that the sums fit.
 pub(crate) fn byte(bytes: &[u8], at: usize) -> usize
     ensures is { result ≡ slice_index bytes.now at }
     ensures small { result < 256 }
@@ -23,7 +24,7 @@ pub(crate) fn pair(bytes: &[u8], at: usize) -> usize
     ensures is { result ≡ value_at 2 at bytes.now }
     ensures small { result < 65536 }
 {
-    byte(bytes, at) * 256 + byte(bytes, at + 1)
+    u16::from_be_bytes([byte_at(bytes, at), byte_at(bytes, at + 1)]) as usize
 }
 
 // How long a body is by its own length field, read where the body begins.
@@ -31,6 +32,7 @@ pub fn reach(kind: Kind, rest: &[u8]) -> usize
     ensures is { result ≡ extent kind rest.now }
     ensures small { result < 65540 }
 {
+    // An arm for each payload, though three are alike, as each has its own figure in the format.
     match kind {
         Kind::T => 9,
         Kind::Rand => 1 + byte(rest, 0),
@@ -46,39 +48,43 @@ pub fn reach(kind: Kind, rest: &[u8]) -> usize
 fn are_items(params: &[u8]) -> bool
     ensures { result ≡ items 0 params.now }
 {
-    let mut at = 0;
-    while at < params.len() {
-        if params.len() - at < 2 {
-            return false;
+    let mut rest = params;
+    while let [_type, n, after @ ..] = rest {
+        match after.get(*n as usize..) {
+            Some(next) => rest = next,
+            None => return false,
         }
-        let n = params[at + 1] as usize;
-        if params.len() - at - 2 < n {
-            return false;
-        }
-        at += 2 + n;
     }
-    true
+    rest.is_empty()
 }
 
 // One SAKKE payload with its next-payload byte, and nothing more.
 fn is_one_sakke(content: &[u8]) -> bool
     ensures { result ≡ one_sakke content.now }
 {
-    content.len() > 0 && 1 + reach(Kind::Sakke, &content[1..]) == content.len()
+    match content {
+        [_next, body @ ..] => reach(Kind::Sakke, body) == body.len(),
+        [] => false,
+    }
 }
 
-// The rule inside a body that is all there.
-fn keeps(kind: Kind, body: &[u8]) -> bool
-    ensures { result ≡ inside kind body.now }
-{
-    match kind {
-        Kind::T => byte(body, 0) == 0,
-        Kind::Rand => true,
-        Kind::Idr => true,
-        Kind::Sp => body.len() < 4 || are_items(&body[4..]),
-        Kind::Sakke => true,
-        Kind::Ext => byte(body, 0) != WRAPPING || body.len() > 3 && is_one_sakke(&body[3..]),
-        Kind::Sign => pair(body, 0) % 4096 > 0,
+impl Layout for Kind {
+    ghost extent = { extent };
+
+    ghost rule = { inside };
+
+    fn reach(&self, rest: &[u8]) -> usize {
+        reach(*self, rest)
+    }
+
+    fn keeps(&self, body: &[u8]) -> bool {
+        match self {
+            Kind::T => byte_at(body, 0) == 0,
+            Kind::Rand | Kind::Idr | Kind::Sakke => true,
+            Kind::Sp => body.get(4..).is_none_or(are_items),
+            Kind::Ext => byte_at(body, 0) != WRAPPING || body.get(3..).is_some_and(is_one_sakke),
+            Kind::Sign => pair(body, 0) % 4096 > 0,
+        }
     }
 }
 
@@ -86,12 +92,10 @@ fn keeps(kind: Kind, body: &[u8]) -> bool
 pub fn body(kind: Kind, at: usize, rest: &[u8]) -> Result<usize, Refusal>
     ensures { result ≡ map_ok length (body_at kind at rest.now) }
 {
-    let n = reach(kind, rest);
-    if n > rest.len() {
-        return Err(Refusal::PayloadCut(at));
-    }
-    if !keeps(kind, &rest[0..n]) {
-        return Err(Refusal::PayloadRule(at));
-    }
-    Ok(n)
+    part_length(
+        &kind,
+        rest,
+        Refusal::PayloadCut(at),
+        Refusal::PayloadRule(at),
+    )
 }

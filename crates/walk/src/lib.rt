@@ -5,12 +5,12 @@ mod chain;
 mod clock;
 mod header;
 mod layout;
+mod marked;
 mod part;
 mod scan;
 mod session;
 mod table;
 
-ghost use Rattle.wire.specs.Octets.{Octets};
 ghost use Rattle.walk.specs.Walks.{Walks};
 
 pub use clock::time;
@@ -19,25 +19,17 @@ pub use part::{Part, lookup};
 use scan::scan;
 pub use session::{info_length, map_fits};
 use table::fill;
-use wire::{Refusal, Row, Walked, octets};
+use wire::{MOST_PAYLOADS, Refusal, Row, Walked};
 
 // Tells the payloads of a message in the first 24 rows, blank after the last, and three numbers.
 // Where it refuses, the rows are as they were.
 pub fn walk(message: &[u8], rows: &mut [Row]) -> Result<Walked, Refusal>
     ensures { Walks message.now rows.old result rows.new }
 {
-    octets(message);
-    tell(message, rows)
-}
-
-fn tell(message: &[u8], rows: &mut [Row]) -> Result<Walked, Refusal>
-    requires { Octets message.now }
-    ensures { Walks message.now rows.old result rows.new }
-{
-    if rows.len() < 24 {
+    if rows.len() < MOST_PAYLOADS {
         return Err(Refusal::FewRows);
     }
-    let mut table = [Row::BLANK; 24];
+    let mut table = [Row::BLANK; MOST_PAYLOADS];
     let walked = scan(message, &mut table)?;
     fill(rows, &table, walked.count);
     Ok(walked)

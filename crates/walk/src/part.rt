@@ -14,13 +14,8 @@ pub struct Part<'a> {
 pub fn lookup<'a>(message: &'a [u8], row: &Row) -> Result<Part<'a>, Refusal>
     ensures { HandsOut message.now row.now result }
 {
-    let start = row.start as usize;
-    let end = start + row.length as usize;
-    if end > message.len() {
-        return Err(Refusal::RowOutside);
-    }
-    Ok(Part {
-        bytes: &message[start..end],
-        place: start,
-    })
+    let range = row.range();
+    let place = range.start;
+    let bytes = message.get(range).ok_or(Refusal::RowOutside)?;
+    Ok(Part { bytes, place })
 }

@@ -1,21 +1,16 @@
 // A whole message: its header, its payloads, and nothing behind them.
 ghost use Rattle.std.specs.Prelude.{◌≡◌, ◌≤◌, IfOk};
 ghost use Rattle.wire.specs.Answers.{map_ok};
-ghost use Rattle.wire.specs.Octets.{Octets};
 ghost use Rattle.wire.specs.Rows.{walked_of};
 ghost use Rattle.wire.specs.Walking.{walking};
 ghost use Rattle.walk.specs.Scans.{HoldsRows};
 
 use crate::chain::chain;
 use crate::header::header;
-use wire::{Refusal, Row, Walked};
-
-// The longest message.
-const LONGEST: usize = 8192;
+use wire::{LONGEST, MOST_PAYLOADS, Refusal, Row, Walked};
 
 // The rows go into the table; what it holds after a refusal says nothing.
-pub(crate) fn scan(message: &[u8], table: &mut [Row; 24]) -> Result<Walked, Refusal>
-    requires { Octets message.now }
+pub(crate) fn scan(message: &[u8], table: &mut [Row; MOST_PAYLOADS]) -> Result<Walked, Refusal>
     ensures answer { result ≡ map_ok walked_of (walking message.now) }
     ensures rows { HoldsRows (walking message.now) table.new }
     ensures few { IfOk result (λ w. w.count ≤ 24) }

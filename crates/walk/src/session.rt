@@ -1,56 +1,53 @@
 // The sessions of a header's map.
 ghost use Rattle.std.specs.Prelude.{◌≡◌, ◌+◌, ◌<◌, ◌≤◌, length, drop, IfOk};
 ghost use Rattle.wire.specs.Answers.{map_ok};
-ghost use Rattle.wire.specs.Extents.{session_extent, session_inside, session_at};
+ghost use Rattle.wire.specs.Extents.{policy_count, data_length, session_extent, session_inside};
 ghost use Rattle.wire.specs.Walking.{map_fits};
 ghost use Rattle.wire.specs.Walking.{sessions as sessions_of};
 
 use crate::layout::{byte, pair};
+use crate::marked::{Layout, part_length};
 use wire::Refusal;
 
 // Whether #CS goes with the map type.
 pub fn map_fits(cs: u8, map_type: u8) -> bool
     ensures { result ≡ map_fits cs map_type }
 {
-    match map_type {
-        1 => cs == 0,
-        2 => 0 < cs && cs <= 4,
-        _ => false,
-    }
+    matches!((map_type, cs), (1, 0) | (2, 1..=4))
 }
 
-// How long a session is by its own lengths.
-fn reach(rest: &[u8]) -> usize
-    ensures is { result ≡ session_extent rest.now }
-    ensures small { result < 66000 }
+fn policy_count(session: &[u8]) -> usize
+    ensures is { result ≡ policy_count session.now }
+    ensures small { result < 128 }
 {
-    let policies = byte(rest, 2) % 128;
-    let length = pair(rest, 3 + policies);
-    6 + policies + length + byte(rest, 5 + policies + length)
+    byte(session, 2) % 128
 }
 
-// The rule inside a session that is all there: its protocol, and session data that goes with the S flag.
-fn keeps(session: &[u8]) -> bool
-    ensures { result ≡ session_inside session.now }
+fn data_length(session: &[u8]) -> usize
+    ensures is { result ≡ data_length session.now }
+    ensures small { result < 65536 }
 {
-    let flags = byte(session, 2);
-    let length = pair(session, 3 + flags % 128);
-    let full = if flags / 128 == 0 { 4 } else { 10 };
-    byte(session, 1) == 0 && (length == 0 || length == full)
+    pair(session, 3 + policy_count(session))
 }
 
-// The length of the session at the front, which begins at `at` in the message.
-fn session(at: usize, rest: &[u8]) -> Result<usize, Refusal>
-    ensures { result ≡ map_ok length (session_at at rest.now) }
-{
-    let n = reach(rest);
-    if n > rest.len() {
-        return Err(Refusal::SessionCut(at));
+struct Session;
+
+impl Layout for Session {
+    ghost extent = { λ _ bs. session_extent bs };
+
+    ghost rule = { λ _ s. session_inside s };
+
+    fn reach(&self, rest: &[u8]) -> usize {
+        let before = 5 + policy_count(rest) + data_length(rest);
+        before + 1 + byte(rest, before)
     }
-    if !keeps(&rest[0..n]) {
-        return Err(Refusal::SessionRule(at));
+
+    // Its protocol, and session data that goes with the S flag.
+    fn keeps(&self, session: &[u8]) -> bool {
+        let length = data_length(session);
+        let full = if byte(session, 2) / 128 == 0 { 4 } else { 10 };
+        byte(session, 1) == 0 && (length == 0 || length == full)
     }
-    Ok(n)
 }
 
 // Where the sessions end, of which the first begins at `from`.
@@ -60,9 +57,14 @@ pub(crate) fn sessions(count: u8, from: usize, bytes: &[u8]) -> Result<usize, Re
     ensures within { IfOk result (λ n. (from ≤ n) × (n ≤ length bytes.now)) }
 {
     let mut at = from;
+    // No fold over the count: its closure would have to show at every call that `at` lies inside.
     for _i in 0..count {
-        let n = session(at, &bytes[at..])?;
-        at += n;
+        at += part_length(
+            &Session,
+            &bytes[at..],
+            Refusal::SessionCut(at),
+            Refusal::SessionRule(at),
+        )?;
     }
     Ok(at)
 }

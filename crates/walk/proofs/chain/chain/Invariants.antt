@@ -5,7 +5,10 @@ use Rattle.walk.specs.Scans.{scan_of, scanning}
 use Rattle.walk.proofs.chain.chain.Given as goal
 
 abbrev pub invariant-loop-i : goal.invariant-loop-i
-invariant-loop-i l =
-    (l.naming < length l.message) × (l.at ≤ length l.message) × (length l.table ≡ 24)
-    × (map_ok (scan_of (take l.i l.table) l.at) (chain (24 - l.i) (get_or l.message l.naming 0) l.naming l.at (drop l.at l.message))
-    ≡ scanning l.message l.from)
+invariant-loop-i l = record {
+  named : l.naming < length l.message;
+  inside : l.at ≤ length l.message;
+  long : length l.table ≡ 24;
+  left : map_ok (scan_of (take l.i l.table) l.at) (chain (24 - l.i) (get_or l.message l.naming 0) l.naming l.at (drop l.at l.message))
+      ≡ scanning l.message l.from;
+}

@@ -1,19 +1,15 @@
-use Rattle.std.proofs.Common.{◌+◌, get_or, refl, ◌∙◌, arith}
-use Rattle.walk.proofs.Items.{item_next, item_cut, item_alone, items_end}
+use Rattle.std.proofs.Common.{◌∙◌, ⊎_elim, arith}
+use Rattle.std.proofs.lemmas.List.{take_rest}
+use Rattle.walk.proofs.Items.{item_next, item_cut}
 use Rattle.walk.proofs.layout.are_items.Goals as goal
 
-pub returns-then-params-at-lt2 : goal.returns-then-params-at-lt2
-returns-then-params-at-lt2 c = item_alone c.args.params.now c.loop-at.at (omega arith) (omega arith) ∙ c.loop-at.invariant.1
+pub loop-rest-preserved : goal.loop-rest-preserved
+loop-rest-preserved c =
+    let bs = c.loop-rest.rest.now in
+    let get = c.in-Some.ensures.lookup.0 in
+    item_next bs _ c.in-len2-up.len_at_least (take_rest bs 2) c.in-Some.next.now get.0 get.2 ∙ c.loop-rest.invariant
 
-pub returns-then-params-at : goal.returns-then-params-at
-returns-then-params-at c =
-    item_cut c.args.params.now c.loop-at.at (get_or c.args.params.now (c.loop-at.at + 1) 0) (omega arith) refl (omega arith) ∙ c.loop-at.invariant.1
-
-pub loop-at-preserved : goal.loop-at-preserved
-loop-at-preserved c = (
-  omega arith,
-  item_next c.args.params.now c.loop-at.at (get_or c.args.params.now (c.loop-at.at + 1) 0) (omega arith) refl (omega arith) ∙ c.loop-at.invariant.1,
-)
-
-pub returns : goal.returns
-returns c = items_end c.args.params.now c.loop-at.at (omega arith) ∙ c.loop-at.invariant.1
+pub returns-in-None : goal.returns-in-None
+returns-in-None c =
+    let bs = c.loop-rest.rest.now in
+    item_cut bs _ c.in-len2-up.len_at_least (take_rest bs 2) (⊎_elim (λ h. h) (λ h. omega arith) c.in-None.ensures.lookup.0) ∙ c.loop-rest.invariant

@@ -1,9 +1,9 @@
-use Rattle.std.proofs.Common.{◌≡◌, ◌-◌, ◌≤◌, length, drop}
+use Rattle.std.proofs.Common.{◌≡◌, length}
 use Rattle.wire.specs.Extents.{items}
 use Rattle.walk.proofs.layout.are_items.Given as goal
 
-abbrev pub invariant-loop-at : goal.invariant-loop-at
-invariant-loop-at l = (l.at ≤ length l.params) × (items 0 (drop l.at l.params) ≡ items 0 l.params)
+abbrev pub invariant-loop-rest : goal.invariant-loop-rest
+invariant-loop-rest l = items 0 l.rest ≡ items 0 l.params
 
-abbrev pub decreases-loop-at : goal.decreases-loop-at
-decreases-loop-at l = length l.params - l.at
+abbrev pub decreases-loop-rest : goal.decreases-loop-rest
+decreases-loop-rest l = length l.rest

@@ -4,7 +4,9 @@ use Rattle.wire.specs.Walking.{sessions}
 use Rattle.walk.proofs.session.sessions.Given as goal
 
 abbrev pub invariant-loop-i : goal.invariant-loop-i
-invariant-loop-i l =
-    (l.from ≤ l.at) × (l.at ≤ length l.bytes)
-    × (map_ok (λ info. l.at + length info) (sessions (l.count - l._i) l.at (drop l.at l.bytes))
-    ≡ map_ok (λ info. l.from + length info) (sessions l.count l.from (drop l.from l.bytes)))
+invariant-loop-i l = record {
+  begun : l.from ≤ l.at;
+  inside : l.at ≤ length l.bytes;
+  left : map_ok (λ info. l.at + length info) (sessions (l.count - l._i) l.at (drop l.at l.bytes))
+      ≡ map_ok (λ info. l.from + length info) (sessions l.count l.from (drop l.from l.bytes));
+}
