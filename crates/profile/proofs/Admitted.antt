@@ -1,8 +1,10 @@
 -- A profile's refusals stand for what it admits.
-use Rattle.std.proofs.Common.{◌≡◌, ℕ, ◌+◌, ◌≤◌, true, cond, eqb, leb, List, [], ◌∷◌, ◌++◌, length, Ok, sym, refl, ap, ◌∙◌, subst, inl, inr, arith}
+use Rattle.std.proofs.Common.{◌≡◌, ℕ, ◌+◌, ◌≤◌, true, cond, eqb, leb, List, [], ◌∷◌, ◌++◌, length, Ok, sym, refl, ap, ◌∙◌, subst, arith}
 use mathlib.Core.Path.{transport}
 use Rattle.std.specs.List.{AllByRecursion}
-use Rattle.std.proofs.lemmas.Bool.{leb-true, le-leb, eqb-true, eq-eqb, cases_Bool}
+use Rattle.std.proofs.lemmas.Bool.{leb-true, le-leb, eq-eqb}
+use Rattle.std.proofs.lemmas.List.{map-append}
+use Rattle.std.proofs.lemmas.Bool.Decides.{nat_tests}
 use Rattle.std.proofs.ByRecursion.{All-weaker}
 use Rattle.wire.specs.declared.row.Row.{Row}
 use Rattle.wire.specs.Kinds.{code_of}
@@ -15,7 +17,7 @@ use Rattle.profile.specs.Tables.{Tables}
 use Rattle.profile.specs.Fields.{Field, fields}
 use Rattle.profile.specs.Admits.{slots, count, slots_of, Taken, Rising, Counted, Admits}
 use Rattle.profile.specs.Admitting.{header_in, fields_in, slots_in, taking, fitted, fitting, sufficient, sufficing, admitting}
-use Rattle.profile.proofs.Slots.{count_append, slots_append, slots_same, at_slot}
+use Rattle.profile.proofs.Slots.{count_append, slots_same, at_slot}
 use Rattle.profile.proofs.Places.{header_same, taken_same}
 
 module _ (P : Tables) where
@@ -61,15 +63,11 @@ module _ (P : Tables) where
   row_of at p = record { code = code_of p.kind; slot = slot p; start = at; length = size p }
 
   one_more : (s at : ℕ) (earlier : List Row) (p : Payload) → count s (slots_in (earlier ++ (row_of at p ∷ []))) ≡ count s (slots_in earlier) + (cond (eqb (slot p) s) 1 0 + 0)
-  one_more s at earlier p = ap (count s) (slots_append earlier (row_of at p ∷ [])) ∙ count_append s (slots_in earlier) (slot p ∷ [])
+  one_more s at earlier p = ap (count s) (map-append (λ r. r.slot) earlier (row_of at p ∷ [])) ∙ count_append s (slots_in earlier) (slot p ∷ [])
 
   step_up : (s : ℕ) (earlier : List Row) (p : Payload) → count (slot p) (slots_in earlier) + 1 ≤ P.most (slot p) → count s (slots_in earlier) ≤ P.most s
       → count s (slots_in earlier) + (cond (eqb (slot p) s) 1 0 + 0) ≤ P.most s
-  step_up s earlier p h b =
-      elim (cases_Bool (eqb (slot p) s)) [
-        | inl e ↦ rw e (subst (λ x. count x (slots_in earlier) + 1 ≤ P.most x) (eqb-true (slot p) s e) (omega arith))
-        | inr e ↦ rw e (omega arith)
-      ]
+  step_up s earlier p h b = grind (arith, nat_tests)
 
   fitting_ok : (bs : List ℕ) (at last : ℕ) (earlier : List Row) (ps : List Payload) (u : Unit {0}) → MarksOff bs (rows_from at ps) ps → AllByRecursion Drawn ps
       → fitting P bs last earlier (rows_from at ps) ≡ Ok u → Fits last earlier ps
@@ -128,14 +126,11 @@ module _ (P : Tables) where
     same_slots : slots_in (rows m) ≡ slots_of (pieces m)
     same_slots = slots_same (header_length m) (pieces m)
 
-    marked : MarksOff (encode m) (rows_from (header_length m) (pieces m)) (pieces m)
-    marked = marked_off m l
-
     pub admits_passed : (u : Unit {0}) → admitting P (encode m) (rows m) ≡ Ok u → Admits P m
     admits_passed u e =
         let a = and_then_ok (taking P (header_in (encode m))) _ u e in
         let b = and_then_ok (fitting P (encode m) 0 [] (rows m)) _ u a.2 in
-        let f = fitting_ok (encode m) (header_length m) 0 [] (pieces m) b.0 marked (pieces_drawn m l) b.1 in
+        let f = fitting_ok (encode m) (header_length m) 0 [] (pieces m) b.0 (marked_off m l) (pieces_drawn m l) b.1 in
         let least = subst (λ ss. AllByRecursion (λ s. P.least s ≤ count s ss) slots) same_slots (sufficing_ok (length (encode m)) (rows m) slots u b.2) in
         record {
           header = subst (Taken P) (header_same m) (taking_ok (header_in (encode m)) a.0 a.1);
@@ -149,7 +144,7 @@ module _ (P : Tables) where
     admitted_passes w =
         let h : taking P (header_in (encode m)) ≡ Ok tt = taking_pass (header_in (encode m)) (subst (Taken P) (sym (header_same m)) w.header) in
         let f : fitting P (encode m) 0 [] (rows m) ≡ Ok tt =
-        fitting_pass (encode m) (header_length m) 0 [] (pieces m) marked (pieces_drawn m l) w.fields (starts (pieces m) w.ranks)
+        fitting_pass (encode m) (header_length m) 0 [] (pieces m) (marked_off m l) (pieces_drawn m l) w.fields (starts (pieces m) w.ranks)
         (All-weaker (Counted P (slots_of (pieces m))) (Most [] (pieces m)) (λ s k. omega arith) slots w.counts) in
         let s : sufficing P (length (encode m)) (rows m) slots ≡ Ok tt =
         sufficing_pass (length (encode m)) (rows m) slots (subst (λ ss. AllByRecursion (λ s. P.least s ≤ count s ss) slots) (sym same_slots)

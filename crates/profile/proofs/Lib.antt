@@ -3,7 +3,6 @@ pub mod Slots
 pub mod Places
 pub mod Admitted
 pub mod Numerals
-pub mod Readings
 pub mod Lines
 pub mod Entries
 pub mod Sheets

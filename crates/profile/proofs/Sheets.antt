@@ -1,13 +1,12 @@
 -- Exactly the texts of lines in bounds are sheets.
-use Rattle.std.proofs.Common.{◌≡◌, ℕ, ◌≤◌, Bool, true, false, List, ◌++◌, length, take, drop, replicate, Ok, Err, sym, refl, ap, ◌∙◌, ap₂, arith, length-append}
+use Rattle.std.proofs.Common.{◌≡◌, ℕ, ◌≤◌, List, ◌++◌, length, take, drop, replicate, Ok, Err, sym, refl, ap, ◌∙◌, ap₂, arith, length-append}
 use Rattle.std.proofs.lemmas.List.{take-append-drop}
 use Rattle.std.specs.List.{flat_map}
 use Rattle.std.specs.Str.{bytes_eq}
 use Rattle.std.proofs.lemmas.Slice.Eq.{bytes_eq-Decides}
-use Rattle.wire.specs.declared.refusal.Refusal.{Refusal}
 use Rattle.wire.specs.declared.refusal.Refusal.TheVariants.{SheetNames}
-use Rattle.wire.specs.Answers.{Answer, check, map_ok}
-use Rattle.wire.proofs.Answers.{never_ok, check_ok, found}
+use Rattle.wire.specs.Answers.{Answer, map_ok}
+use Rattle.wire.proofs.Answers.{check_ok, found}
 use Rattle.profile.specs.declared.sheet.Entry.{Entry}
 use Rattle.profile.specs.declared.sheet.Line.{Line}
 use Rattle.profile.specs.Sheets.{line_text, names, sheet_text, Lines, nothing, entries_of}
@@ -20,13 +19,13 @@ written ls k =
     let text : List ℕ = sheet_text ls in
     let j : List ℕ = flat_map line_text ls in
     let n : length j ≤ length text = omega (arith, length-append names j) in
-    lines_there ls (length text) 0 21 k n
+    lines_there ls (length text) 0 (length text) k n
 
 parsed : (text : List ℕ) (ls : List Line) → parsing text ≡ Ok ls → Lines 0 ls × (sheet_text ls ≡ text)
 parsed text ls e =
-    let k = check_ok (bytes_eq names (take 21 text)) SheetNames (lines_from (length text) 0 21 (drop 21 text)) ls e in
-    let b = lines_back (length text) 0 21 (drop 21 text) ls k.1 in
-    (b.0, ap₂ ◌++◌ ((bytes_eq-Decides names (take 21 text)).0 k.0) b.1 ∙ take-append-drop 21 text)
+    let k = check_ok (bytes_eq (take 21 text) names) SheetNames (lines_from (length text) 0 (length text) (drop 21 text)) ls e in
+    let b = lines_back (length text) 0 (length text) (drop 21 text) ls k.1 in
+    (b.0, ap₂ ◌++◌ (sym ((bytes_eq-Decides (take 21 text) names).0 k.0)) b.1 ∙ take-append-drop 21 text)
 
 entered : (text : List ℕ) (r : Answer (List Line)) → parsing text ≡ r → map_ok (laid (replicate 13 nothing)) r ≡ map_ok entries_of r
 entered text (Ok ls) e = ap Ok (laid_is ls (parsed text ls e).0)
@@ -44,12 +43,3 @@ parses text answer e =
           let p = parsed text a.0 a.1 in
           (a.0, p.0, p.1, sym a.2);
     }
-
--- the two ways through the first line
-pub names_refused : {A : Type 0} (passes : Bool) (g : List Line → A) (r : Answer (List Line)) (f : Refusal) → Err f ≡ check {A = Unit {0}} passes SheetNames (Ok tt) → Err f ≡ map_ok g (check passes SheetNames r)
-names_refused true g r f e = absurd (never_ok f tt e)
-names_refused false g r f e = cc
-
-pub names_passed : {A : Type 0} (passes : Bool) (g : List Line → A) (r : Answer (List Line)) → Ok tt ≡ check {A = Unit {0}} passes SheetNames (Ok tt) → map_ok g r ≡ map_ok g (check passes SheetNames r)
-names_passed true g r e = refl
-names_passed false g r e = absurd (never_ok SheetNames tt (sym e))

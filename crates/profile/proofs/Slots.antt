@@ -1,22 +1,26 @@
 -- Slots of payloads and of their rows, and how often they stand.
-use Rattle.std.proofs.Common.{◌≡◌, ℕ, zero, suc, ◌+◌, ◌<◌, ◌≤◌, eqb, List, [], ◌∷◌, ◌++◌, refl, ap, subst, inl, inr, arith}
-use Rattle.std.specs.List.{AllByRecursion}
-use Rattle.std.proofs.lemmas.Bool.{cond_both, cases_eq}
+use Rattle.std.proofs.Common.{◌≡◌, ℕ, ◌+◌, ◌-◌, ◌≤◌, eqb, List, [], ◌∷◌, ◌++◌, length, get_or, refl, ap, ◌∙◌, subst, arith}
+use Rattle.std.specs.List.{AllByRecursion, filter}
+use Rattle.std.proofs.lemmas.Bool.Decides.{nat_tests}
+use Rattle.std.proofs.lemmas.Bool.{cond_both}
+use Rattle.std.proofs.lemmas.List.FromFn.{get_or-range_with_len, length-range_with_len}
+use Rattle.std.proofs.ByRecursion.{All-get_or}
 use Rattle.wire.specs.declared.kind.Kind.{Kind}
 use Rattle.wire.specs.declared.kind.Kind.TheVariants.{T, Rand, Idr, Sp, Sakke, Ext, Sign}
 use Rattle.wire.specs.declared.row.Row.{Row}
 use Rattle.wire.specs.Messages.{Payload}
 use Rattle.wire.specs.Rows.{Slotted, roles, types, among, slot_of, slot, size, rows_from}
-use Rattle.profile.specs.Admits.{numbers, slots, count, slots_of}
+use Rattle.profile.specs.Admits.{slots, count, slots_of}
 use Rattle.profile.specs.Admitting.{slots_in}
 
 pub count_append : (n : ℕ) (ss rs : List ℕ) → count n (ss ++ rs) ≡ count n ss + count n rs
 count_append n [] rs = omega arith
 count_append n (s ∷ ss) rs = omega (arith, count_append n ss rs)
 
-pub slots_append : (rows more : List Row) → slots_in (rows ++ more) ≡ slots_in rows ++ slots_in more
-slots_append [] more = refl
-slots_append (r ∷ rows) more = ap (λ x. r.slot ∷ x) (slots_append rows more)
+-- the rows of a slot, counted as the code does it
+pub count_filtered : (s : ℕ) (rows : List Row) → length (filter (λ r. eqb r.slot s) rows) ≡ count s (slots_in rows)
+count_filtered s [] = refl
+count_filtered s (r ∷ rows) = grind (arith, nat_tests, count_filtered s rows)
 
 pub slots_same : (at : ℕ) (ps : List Payload) → slots_in (rows_from at ps) ≡ slots_of ps
 unfolding rows_from
@@ -40,15 +44,8 @@ slot_there Sakke v = (omega arith, omega arith)
 slot_there Ext v = among_these There (omega arith, omega arith) types (omega arith) v
 slot_there Sign v = (omega arith, omega arith)
 
-among_numbers : (Q : ℕ → Type 0) (many n : ℕ) → AllByRecursion Q (numbers many n) → (s : ℕ) → n ≤ s → s < n + many → Q s
-among_numbers Q zero n h s lo hi = absurd (omega arith)
-among_numbers Q (suc many) n h s lo hi =
-    elim (cases_eq n s) [
-      | inl e ↦ subst Q e h.0
-      | inr e ↦ among_numbers Q many (n + 1) h.1 s (omega arith) (omega arith)
-    ]
-
 pub at_slot : (Q : ℕ → Type 0) → AllByRecursion Q slots → (p : Payload) → Q (slot p)
 at_slot Q h p =
-    let t = slot_there p.kind _ in
-    among_numbers Q 12 1 h (slot p) t.0 (omega arith)
+    let t : There (slot p) = slot_there p.kind _ in
+    let is : get_or slots (slot p - 1) 0 ≡ slot p = get_or-range_with_len 1 12 (slot p - 1) 0 (omega arith) ∙ omega arith in
+    subst Q is (All-get_or Q slots (slot p - 1) 0 (omega (arith, length-range_with_len 1 12)) h)

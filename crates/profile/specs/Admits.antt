@@ -1,19 +1,14 @@
 -- What a profile admits.
-use Rattle.std.specs.Prelude.{◌≡◌, ℕ, zero, suc, ◌+◌, ◌≤◌, true, cond, List, [], ◌∷◌, ◌==◌}
-use Rattle.std.specs.List.{AllByRecursion}
+use Rattle.std.specs.Prelude.{◌≡◌, ℕ, ◌+◌, ◌≤◌, true, cond, List, [], ◌∷◌, map, ◌==◌}
+use Rattle.std.specs.List.{AllByRecursion, range_with_len}
 use Rattle.wire.specs.Messages.{Payload, Message, pieces}
 use Rattle.wire.specs.Rows.{slot}
 use Rattle.profile.specs.Tables.{Tables}
 use Rattle.profile.specs.Fields.{Field, header_fields, fields}
 
--- so many numbers, one after the other
-abbrev pub numbers : ℕ → ℕ → List ℕ
-numbers zero n = []
-numbers (suc many) n = n ∷ numbers many (n + 1)
-
 -- the slots there are, 1 to 12
 abbrev pub slots : List ℕ
-slots = numbers 12 1
+slots = range_with_len 1 12
 
 -- how many are n
 abbrev pub count : ℕ → List ℕ → ℕ
@@ -21,8 +16,7 @@ count n [] = 0
 count n (s ∷ ss) = cond (s == n) 1 0 + count n ss
 
 abbrev pub slots_of : List Payload → List ℕ
-slots_of [] = []
-slots_of (p ∷ ps) = slot p ∷ slots_of ps
+slots_of ps = map slot ps
 
 abbrev pub Taken : Tables → List Field → Type 0
 Taken T fs = AllByRecursion (λ f. T.takes f.number f.value ≡ true) fs

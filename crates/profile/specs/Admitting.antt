@@ -27,16 +27,15 @@ places_of (Some k) slot = field_places k slot
 abbrev pub field_in : List ℕ → ℕ → Place → Field
 field_in bs start f = field f.number (start + f.byte) (value_in f.number (slice_index bs (start + f.byte)))
 
--- SAKKE params and ID scheme
-abbrev pub sakke_in : List ℕ → ℕ → ℕ → List Field
-sakke_in bs params scheme = field 8 params (slice_index bs params) ∷ field 9 scheme (slice_index bs scheme) ∷ []
+-- SAKKE params, and ID scheme behind it
+abbrev pub sakke_in : List ℕ → ℕ → List Field
+sakke_in bs params = field 8 params (slice_index bs params) ∷ field 9 (params + 1) (slice_index bs (params + 1)) ∷ []
 
 abbrev pub fields_in : List ℕ → Row → List Field
 fields_in bs r = map (field_in bs r.start) (places_of (kind_of r.code) r.slot)
 
 abbrev pub slots_in : List Row → List ℕ
-slots_in [] = []
-slots_in (r ∷ rs) = r.slot ∷ slots_in rs
+slots_in rows = map (λ r. r.slot) rows
 
 -- one payload behind earlier ones, of which the last has rank `last`: its fields, its rank, and how often its slot stands. Its rank is
 -- what is answered

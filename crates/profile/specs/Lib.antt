@@ -1,6 +1,7 @@
 pub mod Tables
 pub mod Values
 pub mod Fixed
+pub mod Names
 pub mod Fields
 pub mod Admits
 pub mod Admitting

@@ -1,59 +1,67 @@
 -- What a text says as a sheet, and the first refusal on the way.
-use Rattle.std.specs.Prelude.{◌≡◌, ℕ, zero, suc, ◌+◌, ◌-◌, ◌*◌, Bool, cond, not, ◌&&◌, List, [], ◌∷◌, length, take, drop, Ok, Err, ◌==◌, nat_le, nat_lt, slice_index, slice_set}
+use Rattle.std.specs.Prelude.{◌≡◌, ℕ, zero, suc, ◌-◌, ◌+◌, ◌*◌, Bool, cond, not, ◌&&◌, List, [], ◌∷◌, length, take, drop, Option, Some, None, Ok, Err, ok_or, option_map, ◌==◌, nat_le, nat_lt, slice_index, slice_set}
+use Rattle.std.specs.Borrow.{Bor}
+use Rattle.std.specs.Char.{is_ascii_digit}
 use Rattle.std.specs.Str.{bytes_eq}
 use Rattle.wire.specs.declared.refusal.Refusal.TheVariants.{SheetNames, SheetLine, SheetBounds}
 use Rattle.wire.specs.Answers.{Answer, check, and_then, map_ok}
 use Rattle.profile.specs.declared.sheet.Entry.{Entry}
-use Rattle.profile.specs.declared.sheet.Numeral.{Numeral}
-use Rattle.profile.specs.declared.sheet.Cut.{Cut}
 use Rattle.profile.specs.declared.sheet.Line.{Line}
-use Rattle.profile.specs.Sheets.{names, sheet_text, Lines, entry_of, entries_of}
+use Rattle.profile.specs.Sheets.{names, sheet_text, Lines, entries_of}
 
-abbrev pub is_digit : ℕ → Bool
-is_digit b = nat_le 48 b && nat_le b 57
+-- what is read at the front of a text, and the text behind it
+abbrev pub Read : Type 0 → Type 0
+Read A = Option (A × List ℕ)
 
--- one digit or two without a leading zero, and the byte that ends them; `at` is where the line starts
-abbrev pub number_at : ℕ → ℕ → List ℕ → Answer Numeral
-number_at end at bs =
-    check (is_digit (slice_index bs 0)) (SheetLine at)
-    (cond (slice_index bs 1 == end) (Ok (record { value = slice_index bs 0 - 48; length = 2 }))
-    (check (is_digit (slice_index bs 1) && (not (slice_index bs 0 == 48) && slice_index bs 2 == end)) (SheetLine at)
-    (Ok (record { value = (slice_index bs 0 - 48) * 10 + (slice_index bs 1 - 48); length = 3 }))))
+-- the same, where code answers it
+abbrev pub read : {A : Type 0} → Option (A × Bor (List ℕ)) → Read A
+read r = option_map (λ p. (p.0, p.1.now)) r
 
-abbrev pub line_at : ℕ → List ℕ → Answer Cut
-line_at at bs =
-    and_then (number_at 32 at bs) (λ slot.
-    and_then (number_at 32 at (drop slot.length bs)) (λ least.
-    and_then (number_at 32 at (drop (slot.length + least.length) bs)) (λ most.
-    and_then (number_at 10 at (drop (slot.length + least.length + most.length) bs)) (λ rank.
-    Ok (record {
-      line = record { slot = slot.value; least = least.value; most = most.value; rank = rank.value };
-      length = slot.length + least.length + most.length + rank.length;
-    })))))
+-- go on behind what was read
+abbrev pub behind : {A B : Type 0} → Read A → (A → List ℕ → Read B) → Read B
+behind None next = None
+behind (Some r) next = next r.0 r.1
+
+-- one digit, or two without a leading zero, and the byte that ends them
+abbrev pub number_in : ℕ → List ℕ → Read ℕ
+number_in end bs =
+    cond (is_ascii_digit (slice_index bs 0) && slice_index bs 1 == end) (Some (slice_index bs 0 - 48, drop 2 bs))
+    (cond (is_ascii_digit (slice_index bs 0) && (not (slice_index bs 0 == 48) && (is_ascii_digit (slice_index bs 1) && slice_index bs 2 == end)))
+    (Some ((slice_index bs 0 - 48) * 10 + (slice_index bs 1 - 48), drop 3 bs))
+    None)
+
+-- four numbers, one space between, and a line feed
+abbrev pub line_in : List ℕ → Read Line
+line_in bs =
+    behind (number_in 32 bs) (λ slot bs.
+    behind (number_in 32 bs) (λ least bs.
+    behind (number_in 32 bs) (λ most bs.
+    behind (number_in 10 bs) (λ rank bs.
+    Some (record { slot = slot; entry = record { bounds = record { least = least; most = most }; rank = rank } }, bs)))))
 
 abbrev pub bounded : ℕ → Line → Bool
-bounded above l = nat_lt above l.slot && (nat_le l.slot 12 && (nat_le l.least l.most && (nat_le l.most 24 && nat_le l.rank 24)))
+bounded above l = nat_lt above l.slot && (nat_le l.slot 12 && (nat_le l.entry.bounds.least l.entry.bounds.most && (nat_le l.entry.bounds.most 24 && nat_le l.entry.rank 24)))
 
--- a line behind one with the slot `above`
-abbrev pub line_behind : ℕ → ℕ → List ℕ → Answer Cut
-line_behind above at bs = and_then (line_at at bs) (λ c. check (bounded above c.line) (SheetBounds at) (Ok c))
+-- a line behind one with the slot `above`, and the text behind it; `at` is where the line starts
+abbrev pub line_behind : ℕ → ℕ → List ℕ → Answer (Line × List ℕ)
+line_behind above at bs = and_then (ok_or (line_in bs) (SheetLine at)) (λ r. check (bounded above r.0) (SheetBounds at) (Ok r))
 
--- at most n lines, which n bytes are enough for
+-- at most n lines, which n bytes are enough for; the text ends at `end`
 unfoldable pub lines_from : ℕ → ℕ → ℕ → List ℕ → Answer (List Line)
-lines_from n above at [] = Ok []
-lines_from zero above at (b ∷ bs) = Err (SheetLine at)
-lines_from (suc n) above at (b ∷ bs) =
-    and_then (line_behind above at (b ∷ bs)) (λ c.
-    and_then (lines_from n c.line.slot (at + c.length) (drop c.length (b ∷ bs))) (λ ls.
-    Ok (c.line ∷ ls)))
+lines_from n above end [] = Ok []
+lines_from zero above end (b ∷ bs) = Err (SheetLine (end - length (b ∷ bs)))
+lines_from (suc n) above end (b ∷ bs) =
+    and_then (line_behind above (end - length (b ∷ bs)) (b ∷ bs)) (λ r.
+    and_then (lines_from n r.0.slot end r.1) (λ ls.
+    Ok (r.0 ∷ ls)))
 
 -- entries, once lines are entered into them
 abbrev pub laid : List Entry → List Line → List Entry
 laid entries [] = entries
-laid entries (l ∷ ls) = laid (slice_set entries l.slot (entry_of l)) ls
+laid entries (l ∷ ls) = laid (slice_set entries l.slot l.entry) ls
 
 abbrev pub parsing : List ℕ → Answer (List Line)
-parsing text = check (bytes_eq names (take 21 text)) SheetNames (lines_from (length text) 0 21 (drop 21 text))
+parsing text = check (bytes_eq (take 21 text) names) SheetNames (lines_from (length text) 0 (length text) (drop 21 text))
 
 -- exactly the texts of lines in bounds are sheets, and their entries are those of the lines
 pub record Parses (text : List ℕ) (answer : Answer (List Entry)) : Type 0 where

@@ -1,12 +1,11 @@
 -- A sheet: the text that it is written as, and the table that it stands for.
 use Rattle.std.specs.Prelude.{ℕ, ◌+◌, ◌/◌, ◌%◌, ◌<◌, ◌≤◌, cond, List, [], ◌∷◌, ◌++◌, map, codes, ◌==◌, nat_lt, slice_index_or}
-use Rattle.std.specs.List.{flat_map}
+use Rattle.std.specs.List.{flat_map, range_with_len}
 use Rattle.profile.specs.declared.sheet.Entry.{Entry}
 use Rattle.profile.specs.declared.sheet.Line.{Line}
 use Rattle.profile.specs.declared.sheet.Sheet.{Sheet}
 use Rattle.profile.specs.Tables.{Tables}
 use Rattle.profile.specs.Values.{sheet_values, taken_in}
-use Rattle.profile.specs.Admits.{numbers}
 
 -- a number below 100 in decimal digits
 abbrev pub digits : ℕ → List ℕ
@@ -18,7 +17,7 @@ ended n end = digits n ++ (end ∷ [])
 
 -- four numbers, one space between, and a line feed
 abbrev pub line_text : Line → List ℕ
-line_text l = ended l.slot 32 ++ (ended l.least 32 ++ (ended l.most 32 ++ ended l.rank 10))
+line_text l = ended l.slot 32 ++ (ended l.entry.bounds.least 32 ++ (ended l.entry.bounds.most 32 ++ ended l.entry.rank 10))
 
 abbrev pub names : List ℕ
 names = codes "slot least most rank" ++ (10 ∷ [])
@@ -30,35 +29,32 @@ sheet_text lines = names ++ flat_map line_text lines
 pub record Bounded (above : ℕ) (l : Line) : Type 0 where
   pub rises : above < l.slot
   pub there : l.slot ≤ 12
-  pub counts : l.least ≤ l.most
-  pub most : l.most ≤ 24
-  pub rank : l.rank ≤ 24
+  pub counts : l.entry.bounds.least ≤ l.entry.bounds.most
+  pub most : l.entry.bounds.most ≤ 24
+  pub rank : l.entry.rank ≤ 24
 
 abbrev pub Lines : ℕ → List Line → Type 0
 Lines above [] = Unit {0}
 Lines above (l ∷ ls) = Bounded above l × Lines l.slot ls
 
 abbrev pub nothing : Entry
-nothing = record { least = 0; most = 0; rank = 0 }
-
-abbrev pub entry_of : Line → Entry
-entry_of l = record { least = l.least; most = l.most; rank = l.rank }
+nothing = record { bounds = record { least = 0; most = 0 }; rank = 0 }
 
 -- the entry of a slot; without a line it is zeros
 abbrev pub entry_in : List Line → ℕ → Entry
 entry_in [] slot = nothing
-entry_in (l ∷ ls) slot = cond (l.slot == slot) (entry_of l) (entry_in ls slot)
+entry_in (l ∷ ls) slot = cond (l.slot == slot) l.entry (entry_in ls slot)
 
 -- slots 0 to 12, of which 0 has no line
 abbrev pub entries_of : List Line → List Entry
-entries_of lines = map (entry_in lines) (numbers 13 0)
+entries_of lines = map (entry_in lines) (range_with_len 0 13)
 
 -- field answers are those of GMK with every purpose
 abbrev pub sheet_tables : Sheet → Tables
 sheet_tables s = record {
   takes = taken_in sheet_values;
-  least = λ slot. (slice_index_or s.entries slot nothing).least;
-  most = λ slot. (slice_index_or s.entries slot nothing).most;
+  least = λ slot. (slice_index_or s.entries slot nothing).bounds.least;
+  most = λ slot. (slice_index_or s.entries slot nothing).bounds.most;
   rank = λ slot. (slice_index_or s.entries slot nothing).rank;
 }
 

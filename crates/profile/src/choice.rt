@@ -11,6 +11,7 @@ pub enum Choice {
     Sheet(Sheet),
 }
 
+// Each question is a match and a direct call: with a `dyn Profile` one match would be left, and each question an indirect call.
 impl Profile for Choice {
     ghost tables = { choice_tables };
 

@@ -1,9 +1,12 @@
 // The three fixed profiles: client-server key, private call key, group key.
-ghost use Rattle.std.specs.Prelude.{◌≡◌};
-ghost use Rattle.profile.specs.Fixed.{fixed_tables, fixed_bounds, bounds_in};
+ghost use Rattle.profile.specs.Fixed.{fixed_tables};
+ghost use Rattle.profile.specs.Names.{Named};
 
 use crate::interface::{Bounds, Profile};
+use crate::table::entry_or;
 use crate::values::fixed_values;
+use std::fmt;
+use std::str::FromStr;
 
 #[derive(Clone, Copy, PartialEq, Eq, Debug)]
 pub enum Fixed {
@@ -12,76 +15,57 @@ pub enum Fixed {
     Gmk,
 }
 
-// A slot that is not there never stands.
-const NEVER: Bounds = Bounds { least: 0, most: 0 };
+// A name that no fixed profile has.
+#[derive(Clone, Copy, PartialEq, Eq, Debug)]
+pub struct UnknownProfile;
 
-const LAST_SLOT: u8 = 12;
+impl fmt::Display for UnknownProfile {
+    fn fmt<W: fmt::Write>(&self, f: &mut fmt::Formatter<W>) -> fmt::Result {
+        f.write_str("no fixed profile has this name")
+    }
+}
+
+impl std::error::Error for UnknownProfile {}
+
+// By the name that a station gives.
+impl FromStr for Fixed {
+    type Err = UnknownProfile;
+
+    ghost from_str_gives = { Named };
+
+    fn from_str(name: &str) -> Result<Fixed, UnknownProfile> {
+        match name {
+            "csk" => Ok(Fixed::Csk),
+            "pck" => Ok(Fixed::Pck),
+            "gmk" => Ok(Fixed::Gmk),
+            _ => Err(UnknownProfile),
+        }
+    }
+}
+
+// A slot that is not there never stands.
+pub(crate) const NEVER: Bounds = Bounds { least: 0, most: 0 };
+
+const OPTIONAL: Bounds = Bounds { least: 0, most: 1 };
+
+const ONCE: Bounds = Bounds { least: 1, most: 1 };
+
+// Slots 0 to 12 (there is no slot 0): T, RAND, IDR of the four roles, SP, SAKKE, EXT of types 6 and 7, SIGN, other. A table for each
+// profile, as in the standard's own, though those of CSK and PCK are alike.
+const CSK: [Bounds; 13] = [
+    NEVER, ONCE, ONCE, ONCE, ONCE, ONCE, ONCE, OPTIONAL, ONCE, OPTIONAL, OPTIONAL, ONCE, NEVER,
+];
+
+const PCK: [Bounds; 13] = [
+    NEVER, ONCE, ONCE, ONCE, ONCE, ONCE, ONCE, OPTIONAL, ONCE, OPTIONAL, OPTIONAL, ONCE, NEVER,
+];
+
+const GMK: [Bounds; 13] = [
+    NEVER, ONCE, ONCE, ONCE, ONCE, ONCE, ONCE, OPTIONAL, ONCE, OPTIONAL, ONCE, ONCE, NEVER,
+];
 
 // The rank of every slot, so that payloads may stand in any order.
 const ANY_ORDER: u8 = 0;
-
-// Slots 0 to 12 (there is no slot 0): T, RAND, IDR of the four roles, SP, SAKKE, EXT of types 6 and 7, SIGN, other.
-// For CSK, PCK and GMK.
-const SLOTS: [[Bounds; 13]; 3] = [
-    [
-        Bounds { least: 0, most: 0 },
-        Bounds { least: 1, most: 1 },
-        Bounds { least: 1, most: 1 },
-        Bounds { least: 1, most: 1 },
-        Bounds { least: 1, most: 1 },
-        Bounds { least: 1, most: 1 },
-        Bounds { least: 1, most: 1 },
-        Bounds { least: 0, most: 1 },
-        Bounds { least: 1, most: 1 },
-        Bounds { least: 0, most: 1 },
-        Bounds { least: 0, most: 1 },
-        Bounds { least: 1, most: 1 },
-        Bounds { least: 0, most: 0 },
-    ],
-    [
-        Bounds { least: 0, most: 0 },
-        Bounds { least: 1, most: 1 },
-        Bounds { least: 1, most: 1 },
-        Bounds { least: 1, most: 1 },
-        Bounds { least: 1, most: 1 },
-        Bounds { least: 1, most: 1 },
-        Bounds { least: 1, most: 1 },
-        Bounds { least: 0, most: 1 },
-        Bounds { least: 1, most: 1 },
-        Bounds { least: 0, most: 1 },
-        Bounds { least: 0, most: 1 },
-        Bounds { least: 1, most: 1 },
-        Bounds { least: 0, most: 0 },
-    ],
-    [
-        Bounds { least: 0, most: 0 },
-        Bounds { least: 1, most: 1 },
-        Bounds { least: 1, most: 1 },
-        Bounds { least: 1, most: 1 },
-        Bounds { least: 1, most: 1 },
-        Bounds { least: 1, most: 1 },
-        Bounds { least: 1, most: 1 },
-        Bounds { least: 0, most: 1 },
-        Bounds { least: 1, most: 1 },
-        Bounds { least: 0, most: 1 },
-        Bounds { least: 1, most: 1 },
-        Bounds { least: 1, most: 1 },
-        Bounds { least: 0, most: 0 },
-    ],
-];
-
-fn slot_bounds(profile: Fixed, slot: u8) -> Bounds
-    ensures { result ≡ bounds_in (fixed_bounds profile) slot }
-{
-    if slot > LAST_SLOT {
-        return NEVER;
-    }
-    match profile {
-        Fixed::Csk => SLOTS[0][slot as usize],
-        Fixed::Pck => SLOTS[1][slot as usize],
-        Fixed::Gmk => SLOTS[2][slot as usize],
-    }
-}
 
 impl Profile for Fixed {
     ghost tables = { fixed_tables };
@@ -91,7 +75,12 @@ impl Profile for Fixed {
     }
 
     fn bounds(&self, slot: u8) -> Bounds {
-        slot_bounds(*self, slot)
+        let slots = match self {
+            Fixed::Csk => &CSK,
+            Fixed::Pck => &PCK,
+            Fixed::Gmk => &GMK,
+        };
+        entry_or(slots, slot, NEVER)
     }
 
     fn rank(&self, _slot: u8) -> u8 {

@@ -6,10 +6,11 @@ mod choice;
 mod fixed;
 mod interface;
 mod sheet;
+mod table;
 mod values;
 
 pub use admission::admit;
 pub use choice::Choice;
-pub use fixed::Fixed;
+pub use fixed::{Fixed, UnknownProfile};
 pub use interface::{Bounds, Profile};
 pub use sheet::Sheet;

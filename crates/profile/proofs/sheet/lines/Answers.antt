@@ -1,26 +1,26 @@
-use Rattle.std.proofs.Common.{Err, ap, ◌∙◌, arith, length-drop, length-set, length-take}
-use Rattle.std.proofs.lemmas.Result.{err_from_is_err_and}
-use Rattle.profile.specs.Sheets.{entry_of}
-use Rattle.profile.proofs.Entries.{line_refused, line_entered, lines_done}
+use Rattle.std.proofs.Common.{arith, rules}
+use Rattle.profile.specs.Parsing.{lines_from}
+use Rattle.profile.proofs.Lines.{goes_on}
+use Rattle.profile.proofs.Entries.{laid_next}
 use Rattle.profile.proofs.sheet.lines.Goals as goal
 
-pub returns-in_err-cut : goal.returns-in_err-cut
-returns-in_err-cut c =
-    let l = c.loop-at in
-    let p = err_from_is_err_and c.from_residual.result c.from_residual.ensures.1 in
-    p.1 ∙ ap Err p.2 ∙ line_refused c.args.text.now l.above l.at l.entries (omega arith) _ c.in_err-cut.ensures.answer ∙ l.invariant.2
+pub returns-in_err-line : goal.returns-in_err-line
+returns-in_err-line c = search (rules, laid_next)
 
-pub loop-at-preserved : goal.loop-at-preserved
-loop-at-preserved c =
-    let l = c.loop-at in
-    let cut = c.in_ok-cut.cut in
-    let w = simp (length-take, length-drop) at c.in_ok-cut.ensures.within.1 in (
-      omega arith,
-      length-set l.entries cut.line.slot (entry_of cut.line) ∙ l.invariant.1,
-      line_entered c.args.text.now l.above l.at l.entries (omega arith) cut c.in_ok-cut.ensures.answer ∙ l.invariant.2,
-    )
+pub bounds-entries-line : goal.bounds-entries-line
+bounds-entries-line c = omega (arith, (goes_on _ _ c.loop-rest.rest.now _ c.in_ok-line.ensures).there)
+
+pub loop-rest-smaller : goal.loop-rest-smaller
+loop-rest-smaller c = (goes_on _ _ c.loop-rest.rest.now _ c.in_ok-line.ensures).shorter
+
+pub loop-rest-preserved : goal.loop-rest-preserved
+loop-rest-preserved c =
+    record {
+      within = omega (arith, (goes_on _ _ c.loop-rest.rest.now _ c.in_ok-line.ensures).shorter);
+      table = search rules;
+      left = search (rules, laid_next);
+    }
 
 pub returns : goal.returns
-returns c =
-    let l = c.loop-at in
-    lines_done c.args.text.now l.above l.at l.entries (omega arith) ∙ l.invariant.2
+unfolding lines_from
+returns c = search rules

@@ -1,14 +1,15 @@
-use Rattle.std.proofs.Common.{◌≡◌, ◌-◌, ◌≤◌, length, drop, replicate}
+use Rattle.std.proofs.Common.{◌≡◌, ◌≤◌, length, replicate}
 use Rattle.wire.specs.Answers.{map_ok}
 use Rattle.profile.specs.Sheets.{nothing}
 use Rattle.profile.specs.Parsing.{lines_from, laid}
 use Rattle.profile.proofs.sheet.lines.Given as goal
 
-abbrev pub invariant-loop-at : goal.invariant-loop-at
-invariant-loop-at l =
-    (l.at ≤ length l.text) × (length l.entries ≡ 13)
-    × (map_ok (laid l.entries) (lines_from (length l.text) l.above l.at (drop l.at l.text))
-    ≡ map_ok (laid (replicate 13 nothing)) (lines_from (length l.text) 0 21 (drop 21 l.text)))
+abbrev pub invariant-loop-rest : goal.invariant-loop-rest
+invariant-loop-rest l = record {
+  within : length l.rest ≤ l.end;
+  table : length l.entries ≡ 13;
+  left : map_ok (laid l.entries) (lines_from l.end l.above l.end l.rest) ≡ map_ok (laid (replicate 13 nothing)) (lines_from l.end 0 l.end l.text);
+}
 
-abbrev pub decreases-loop-at : goal.decreases-loop-at
-decreases-loop-at l = length l.text - l.at
+abbrev pub decreases-loop-rest : goal.decreases-loop-rest
+decreases-loop-rest l = length l.rest
