@@ -2,6 +2,6 @@ pub mod Signed
 pub mod Identities
 pub mod Tags
 pub mod Pinned
-pub mod Places
+pub mod Items
 pub mod Signers
 pub mod TrustLists

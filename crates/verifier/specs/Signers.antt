@@ -1,18 +1,18 @@
 -- The signers on a trust list, and what entering one does.
-use Rattle.std.specs.Prelude.{◌≡◌, ℕ, ◌+◌, Bool, true, false, cond, ◌&&◌, ◌||◌, List, [], ◌∷◌, ◌++◌, length, Ok, Err, nat_le}
+use Rattle.std.specs.Prelude.{◌≡◌, ℕ, ◌+◌, Bool, true, cond, ◌&&◌, ◌||◌, List, [], ◌∷◌, ◌++◌, map, length, take, Ok, Err, nat_le}
+use Rattle.std.specs.List.{list_any}
 use Rattle.wire.specs.declared.refusal.Refusal.{Refusal}
 use Rattle.wire.specs.declared.refusal.Refusal.TheVariants.{SignerLength, ListFull}
 use Rattle.wire.specs.Answers.{Answer, check}
-use Rattle.verifier.specs.declared.places.Signers.{Signers}
-use Rattle.verifier.specs.Places.{signers_in}
+use Rattle.verifier.specs.Items.{items_of}
+use Rattle.verifier.specs.declared.signers.Signers.{Signers}
 use Rattle.verifier.specs.Identities.{same_identity}
 
 abbrev pub signers_of : Signers → List (List ℕ)
-signers_of s = signers_in s.count s.places
+signers_of s = map items_of (items_of s.entries)
 
 abbrev pub on_list : List (List ℕ) → List ℕ → Bool
-on_list [] signer = false
-on_list (s ∷ ss) signer = same_identity s signer || on_list ss signer
+on_list list signer = list_any (λ s. same_identity s signer) list
 
 -- 1 to 128 bytes
 abbrev pub fits : List ℕ → Bool

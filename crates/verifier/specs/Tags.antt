@@ -1,5 +1,6 @@
 -- The key tag.
-use Rattle.std.specs.Prelude.{ℕ, ◌+◌, ◌*◌, ◌/◌, ◌%◌, ◌^◌, Bool, List, [], ◌∷◌, ◌++◌}
+use Rattle.std.specs.Prelude.{ℕ, ◌+◌, ◌*◌, ◌/◌, ◌%◌, ◌^◌, Bool, List, ◌++◌}
+use Rattle.std.specs.List.{fold}
 use Rattle.std.specs.Str.{bytes_eq}
 use Rattle.wire.specs.Octets.{in_bytes}
 use Rattle.verifier.specs.declared.key_tag.KeyTag.{KeyTag}
@@ -13,8 +14,7 @@ abbrev pub turned : ℕ → ℕ → ℕ
 turned t b = (rotated t + b) % 2 ^ 64
 
 abbrev pub tag : ℕ → List ℕ → ℕ
-tag t [] = t
-tag t (b ∷ bs) = tag (turned t b) bs
+tag t bs = fold turned t bs
 
 -- the eight bytes of the tag over the signer, then the span
 abbrev pub tag_passes : KeyTag → Signed → Bool

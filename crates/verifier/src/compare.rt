@@ -3,7 +3,7 @@ ghost use Rattle.std.specs.Prelude.{◌≡◌};
 ghost use Rattle.std.specs.Str.{bytes_eq};
 ghost use Rattle.verifier.specs.Identities.{same_identity};
 
-// Without an early end, so that it is compiled to vectors.
+// Without an early end, which `a == b` has: so how long it takes says nothing of where two signatures differ.
 pub fn same_bytes(a: &[u8], b: &[u8]) -> bool
     ensures { result ≡ bytes_eq a.now b.now }
 {
@@ -11,8 +11,8 @@ pub fn same_bytes(a: &[u8], b: &[u8]) -> bool
         return false;
     }
     let mut equal = true;
-    for i in 0..a.len() {
-        equal = equal & (a[i] == b[i]);
+    for (i, byte) in a.iter().enumerate() {
+        equal &= *byte == b[i];
     }
     equal
 }

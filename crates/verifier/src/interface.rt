@@ -2,7 +2,8 @@
 ghost use Rattle.std.specs.Prelude.{◌≡◌, Bool};
 ghost use Rattle.verifier.specs.Signed.{Signed, signed};
 
-// Its meaning is the set of what it passes; asking alters nothing.
+// Its meaning is the set of what it passes; asking alters nothing. The three parts go as they stand in a message: a struct of them
+// would be made at each call only to be taken apart again.
 pub trait Verifier {
     ghost passing: { Self → Signed → Bool };
 

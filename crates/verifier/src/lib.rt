@@ -2,10 +2,10 @@
 #![tactic(auto)]
 
 mod compare;
+mod few;
 mod interface;
 mod key_tag;
 mod pinned;
-mod places;
 mod signers;
 mod trust_list;
 

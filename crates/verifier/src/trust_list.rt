@@ -4,7 +4,7 @@ ghost use Rattle.verifier.specs.Signers.{signers_of, Enters};
 ghost use Rattle.verifier.specs.TrustLists.{trust_passes};
 
 use crate::interface::Verifier;
-use crate::places::Signers;
+use crate::signers::Signers;
 use wire::Refusal;
 
 #[derive(Drop)]
@@ -37,6 +37,6 @@ impl<V: Verifier> Verifier for TrustList<V> {
     ghost passing = { λ t s. trust_passes (V.Verifier.passing t.inner) (signers_of t.signers) s };
 
     fn passes(&self, signer: &[u8], span: &[u8], signature: &[u8]) -> bool {
-        self.signers.hold(signer) && self.inner.passes(signer, span, signature)
+        self.signers.contains(signer) && self.inner.passes(signer, span, signature)
     }
 }
