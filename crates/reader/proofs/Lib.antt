@@ -1,3 +1,2 @@
-pub mod Signing
 pub mod Good
 pub mod Promises

@@ -32,9 +32,9 @@ in_turn (Err g) passes f m = refl
 
 -- a message was walked, and its rows stand in the table
 module _ (bytes : List ℕ) (m : Message) (w : Walked) (blanks table : List Row) (t : Told m bytes blanks w table) where
-  first : take (w.count - 0) table ≡ rows m
+  first : take (w.count) table ≡ rows m
   first =
-      let n : w.count - 0 ≡ length (rows m) = omega (arith, ap (λ x. x.count) t.numbers, rows_count (header_length m) (pieces m)) in
+      let n : w.count ≡ length (rows m) = omega (arith, ap (λ x. x.count) t.numbers, rows_count (header_length m) (pieces m)) in
       ap₂ take n t.rows ∙ take_at (rows m) _ (length (rows m)) refl
 
   shown : (n : ℕ) → n ≡ length (span m) → signed (signer_in bytes (rows m)) (take n bytes) (drop n bytes) ≡ signed_in m
@@ -45,7 +45,7 @@ module _ (bytes : List ℕ) (m : Message) (w : Walked) (blanks table : List Row)
       ∙ ap (signed (signer_of m.payloads) (span m)) (ap (drop n) is ∙ drop_at (span m) m.signature n (sym e))
 
   -- what judge asks
-  pub rows_within : Within (length bytes) (take (w.count - 0) table)
+  pub rows_within : Within (length bytes) (take (w.count) table)
   rows_within = subst (Within (length bytes)) (sym first) (subst (λ x. Within (length x) (rows m)) t.is (within m t.lawful))
 
   pub span_within : w.span ≤ length bytes
@@ -85,75 +85,80 @@ module _ (T : Tables) (V : Signed → Bool) (bytes : List ℕ) where
         },
       )
 
-  module _ (before after : List Row) (answer : Answer Walked) (y : Octets bytes)
-      (says : answer ≡ map_ok walked_of (reading_into (length before) T V bytes)) (leaves : after ≡ tabled (reading_into (length before) T V bytes) before) where
-    accepted : (m : Message) (w : Walked) → reading_into (length before) T V bytes ≡ Ok m → walked_of m ≡ w → Good T V m × Told m bytes before w after
-    accepted m w e n =
-        let c = check_ok (leb 24 (length before)) _ (reading T V bytes) m e in
-        let g = good_read m y c.1 in
-        let is : after ≡ filled m before = leaves ∙ ap (λ x. tabled x before) e in
-        (g.1, subst (λ x. Told m x before w after) g.0 (subst (λ x. Told m (encode m) before x after) n (told m before after g.1.lawful is)))
-
-    pub reads : Reads T V bytes before answer after
-    reads = record {
-      value = says;
-      rows = leaves;
-      accepts = λ m g e h.
-          let t : leb 24 (length before) ≡ true = le-leb 24 (length before) h in
-          let r : reading_into (length before) T V bytes ≡ Ok m = rw t (read_good m g e) in
-          (says ∙ ap (map_ok walked_of) r, leaves ∙ ap (λ x. tabled x before) r);
-      only = λ w e.
-          let f = found (reading_into (length before) T V bytes) walked_of w (sym e ∙ says) in
-          let a = accepted f.0 w f.1 f.2 in
-          (f.0, a.0, a.1);
-      told_apart = λ m other l k e o. told_apart m other l k (e ∙ sym o);
-      unchanged = λ f e. leaves ∙ ap (λ x. tabled x before) (refused (reading_into (length before) T V bytes) walked_of f (sym e ∙ says));
-    }
-
   -- the answer, and the table afterwards
   abbrev Says : List Row → Answer Walked → List Row → Type 0
   Says before answer after = (answer ≡ map_ok walked_of (reading_into (length before) T V bytes)) × (after ≡ tabled (reading_into (length before) T V bytes) before)
 
-  pub few_rows : (before : List Row) → length before < 24 → Says before (Err FewRows) before
-  few_rows before h = let t : leb 24 (length before) ≡ false = lt-leb 24 (length before) h in (rw t, rw t)
+  module _ (before after : List Row) (answer : Answer Walked) (y : Octets bytes) (says : Says before answer after) where
+    accepted : (m : Message) (w : Walked) → reading_into (length before) T V bytes ≡ Ok m → walked_of m ≡ w → Good T V m × Told m bytes before w after
+    accepted m w e n =
+        let c = check_ok (leb 24 (length before)) _ (reading T V bytes) m e in
+        let g = good_read m y c.1 in
+        let is : after ≡ filled m before = says.1 ∙ ap (λ x. tabled x before) e in
+        (g.1, subst (λ x. Told m x before w after) g.0 (subst (λ x. Told m (encode m) before x after) n (told m before after g.1.lawful is)))
 
-  module _ (before : List Row) (h : 24 ≤ length before) where
-    enough : reading_into (length before) T V bytes ≡ reading T V bytes
-    enough = let t : leb 24 (length before) ≡ true = le-leb 24 (length before) h in rw t
+    reads : Reads T V bytes before answer after
+    reads = record {
+      value = says.0;
+      rows = says.1;
+      accepts = λ m g e h.
+          let t : leb 24 (length before) ≡ true = le-leb 24 (length before) h in
+          let r : reading_into (length before) T V bytes ≡ Ok m = rw t (read_good m g e) in
+          (says.0 ∙ ap (map_ok walked_of) r, says.1 ∙ ap (λ x. tabled x before) r);
+      only = λ w e.
+          let f = found (reading_into (length before) T V bytes) walked_of w (sym e ∙ says.0) in
+          let a = accepted f.0 w f.1 f.2 in
+          (f.0, a.0, a.1);
+      told_apart = λ m other l k e o. told_apart m other l k (e ∙ sym o);
+      unchanged = λ f e. says.1 ∙ ap (λ x. tabled x before) (refused (reading_into (length before) T V bytes) walked_of f (sym e ∙ says.0));
+    }
 
-    says_refused : (f : Refusal) → reading T V bytes ≡ Err f → Says before (Err f) before
-    says_refused f e = (sym (ap (map_ok walked_of) (enough ∙ e)), sym (ap (λ x. tabled x before) (enough ∙ e)))
+  module _ (y : Octets bytes) (before : List Row) where
+    pub few_rows : length before < 24 → Reads T V bytes before (Err FewRows) before
+    few_rows h = let t : leb 24 (length before) ≡ false = lt-leb 24 (length before) h in reads before before (Err FewRows) y (rw t, rw t)
 
-    pub walk_refused : (f : Refusal) → Err f ≡ map_ok walked_of (walking bytes) → Says before (Err f) before
-    walk_refused f e = says_refused f (rw (refused (walking bytes) walked_of f e))
+    module _ (h : 24 ≤ length before) where
+      enough : reading_into (length before) T V bytes ≡ reading T V bytes
+      enough = let t : leb 24 (length before) ≡ true = le-leb 24 (length before) h in rw t
 
-    module _ (m : Message) (w : Walked) (blanks table : List Row) (t : Told m bytes blanks w table) where
-      walked : walking bytes ≡ Ok m
-      walked = ap walking (sym t.is) ∙ read_back m t.lawful
+      -- what `?` passes on is the refusal that it was given
+      refuses : (f : Refusal) (answer : Answer Walked) → reading T V bytes ≡ Err f → (g : Refusal) × (answer ≡ Err g) × (g ≡ f) → Reads T V bytes before answer before
+      refuses f answer e on =
+          reads before before answer y (
+            on.1 ∙ ap Err on.2 ∙ sym (ap (map_ok walked_of) (enough ∙ e)),
+            sym (ap (λ x. tabled x before) (enough ∙ e)),
+          )
 
-      judged : judging T V bytes (take (w.count - 0) table) w.span ≡ and_then (admitting T bytes (rows m)) (λ _. check (V (signed_in m)) (NotPassed (length (span m))) (Ok tt))
-      judged =
-          let n : w.span ≡ length (span m) = ap (λ x. x.span) t.numbers in
-          ap (λ x. judging T V bytes x w.span) (first bytes m w blanks table t)
-          ∙ ap₂ (λ s k. and_then (admitting T bytes (rows m)) (λ _. check (V s) (NotPassed k) (Ok tt))) (shown bytes m w blanks table t w.span n) n
+      pub walk_refused : (f : Refusal) (answer : Answer Walked) → Err f ≡ map_ok walked_of (walking bytes) → (g : Refusal) × (answer ≡ Err g) × (g ≡ f) → Reads T V bytes before answer before
+      walk_refused f answer e on = refuses f answer (rw (refused (walking bytes) walked_of f e)) on
 
-      reading_is : reading T V bytes ≡ and_then (judging T V bytes (take (w.count - 0) table) w.span) (λ _. Ok m)
-      reading_is =
-          ap (λ r. and_then r (λ m. and_then (admitting T bytes (rows m)) (λ _. check (V (signed_in m)) (NotPassed (length (span m))) (Ok m)))) walked
-          ∙ in_turn (admitting T bytes (rows m)) (V (signed_in m)) (NotPassed (length (span m))) m ∙ ap (λ r. and_then r (λ _. Ok m)) (sym judged)
+      module _ (m : Message) (w : Walked) (blanks table : List Row) (t : Told m bytes blanks w table) where
+        walked : walking bytes ≡ Ok m
+        walked = ap walking (sym t.is) ∙ read_back m t.lawful
 
-      pub judge_refused : (f : Refusal) → Err f ≡ judging T V bytes (take (w.count - 0) table) w.span → Says before (Err f) before
-      judge_refused f e = says_refused f (reading_is ∙ ap (λ r. and_then r (λ _. Ok m)) (sym e))
+        judged : judging T V bytes (take (w.count) table) w.span ≡ and_then (admitting T bytes (rows m)) (λ _. check (V (signed_in m)) (NotPassed (length (span m))) (Ok tt))
+        judged =
+            let n : w.span ≡ length (span m) = ap (λ x. x.span) t.numbers in
+            ap (λ x. judging T V bytes x w.span) (first bytes m w blanks table t)
+            ∙ ap₂ (λ s k. and_then (admitting T bytes (rows m)) (λ _. check (V s) (NotPassed k) (Ok tt))) (shown bytes m w blanks table t w.span n) n
 
-      -- the caller's first 24 rows are those of the table
-      copied : drop 24 blanks ≡ [] → table ++ drop 24 before ≡ filled m before
-      copied none =
-          let more : List Row = replicate (24 - length (rows m)) blank in
-          ap (λ x. x ++ drop 24 before) (t.rows ∙ ap (λ x. rows m ++ (more ++ x)) none ∙ ap (λ x. rows m ++ x) (append-nil more))
-          ∙ append_assoc (rows m) more (drop 24 before)
+        reading_is : reading T V bytes ≡ and_then (judging T V bytes (take (w.count) table) w.span) (λ _. Ok m)
+        reading_is =
+            ap (λ r. and_then r (λ m. and_then (admitting T bytes (rows m)) (λ _. check (V (signed_in m)) (NotPassed (length (span m))) (Ok m)))) walked
+            ∙ in_turn (admitting T bytes (rows m)) (V (signed_in m)) (NotPassed (length (span m))) m ∙ ap (λ r. and_then r (λ _. Ok m)) (sym judged)
 
-      pub judge_passed : (after : List Row) → Ok tt ≡ judging T V bytes (take (w.count - 0) table) w.span → drop 24 blanks ≡ [] → after ≡ table ++ drop 24 before → Says before (Ok w) after
-      judge_passed after e none to =
-          let is : after ≡ filled m before = to ∙ copied none in
-          let r : reading_into (length before) T V bytes ≡ Ok m = enough ∙ reading_is ∙ ap (λ r. and_then r (λ _. Ok m)) (sym e) in
-          (ap Ok t.numbers ∙ sym (ap (map_ok walked_of) r), is ∙ sym (ap (λ x. tabled x before) r))
+        pub judge_refused : (f : Refusal) (answer : Answer Walked) → Err f ≡ judging T V bytes (take (w.count) table) w.span → (g : Refusal) × (answer ≡ Err g) × (g ≡ f) → Reads T V bytes before answer before
+        judge_refused f answer e on = refuses f answer (reading_is ∙ ap (λ r. and_then r (λ _. Ok m)) (sym e)) on
+
+        -- the caller's first 24 rows are those of the table
+        copied : drop 24 blanks ≡ [] → table ++ drop 24 before ≡ filled m before
+        copied none =
+            let more : List Row = replicate (24 - length (rows m)) blank in
+            ap (λ x. x ++ drop 24 before) (t.rows ∙ ap (λ x. rows m ++ (more ++ x)) none ∙ ap (λ x. rows m ++ x) (append-nil more))
+            ∙ append_assoc (rows m) more (drop 24 before)
+
+        pub judge_passed : (after : List Row) → Ok tt ≡ judging T V bytes (take (w.count) table) w.span → drop 24 blanks ≡ [] → after ≡ table ++ drop 24 before → Reads T V bytes before (Ok w) after
+        judge_passed after e none to =
+            let is : after ≡ filled m before = to ∙ copied none in
+            let r : reading_into (length before) T V bytes ≡ Ok m = enough ∙ reading_is ∙ ap (λ r. and_then r (λ _. Ok m)) (sym e) in
+            reads before after (Ok w) y (ap Ok t.numbers ∙ sym (ap (map_ok walked_of) r), is ∙ sym (ap (λ x. tabled x before) r))

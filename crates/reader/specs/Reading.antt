@@ -1,22 +1,28 @@
 -- What a read finds in bytes under a profile and a verifier, and the first refusal on the way.
-use Rattle.std.specs.Prelude.{◌≡◌, ℕ, ◌+◌, ◌<◌, ◌≤◌, Bool, cond, List, [], ◌∷◌, length, take, drop, Ok, ◌==◌, nat_le, slice_index_or}
+use Rattle.std.specs.Prelude.{ℕ, ◌+◌, ◌≤◌, Bool, List, [], length, take, drop, Option, Ok, ◌==◌, nat_le}
+use Rattle.std.specs.List.{find}
+use Rattle.std.specs.Option.{ForSome, option_map, unwrap_or}
 use Rattle.wire.specs.declared.refusal.Refusal.TheVariants.{FewRows, NotPassed}
 use Rattle.wire.specs.declared.row.Row.{Row}
 use Rattle.wire.specs.Messages.{Message, span}
-use Rattle.wire.specs.Rows.{rows, blank}
+use Rattle.wire.specs.Rows.{rows}
 use Rattle.wire.specs.Answers.{Answer, check, and_then}
 use Rattle.wire.specs.Walking.{walking}
 use Rattle.profile.specs.Tables.{Tables}
 use Rattle.profile.specs.Admitting.{admitting}
 use Rattle.verifier.specs.Signed.{Signed, signed, signed_in}
 
--- rows in slot 3 lie inside n bytes, and are long enough
-abbrev pub Within : ℕ → List Row → Type 0
-Within n rows = (i : ℕ) → i < length rows → (slice_index_or rows i blank).slot ≡ 3 → (5 ≤ (slice_index_or rows i blank).length) × ((slice_index_or rows i blank).start + (slice_index_or rows i blank).length ≤ n)
+-- the first row of an IDR of role 1
+abbrev pub initiator_in : List Row → Option Row
+initiator_in rows = find (λ r. r.slot == 3) rows
 
+-- it lies inside n bytes, and its ID data behind five of its own
+abbrev pub Within : ℕ → List Row → Type 0
+Within n rows = ForSome (initiator_in rows) (λ r. (5 ≤ r.length) × (r.start + r.length ≤ n))
+
+-- that ID data; no bytes if there is none
 abbrev pub signer_in : List ℕ → List Row → List ℕ
-signer_in bs [] = []
-signer_in bs (r ∷ rs) = cond (r.slot == 3) (drop 5 (take r.length (drop r.start bs))) (signer_in bs rs)
+signer_in bs rows = unwrap_or (option_map (λ r. drop 5 (take r.length (drop r.start bs))) (initiator_in rows)) []
 
 -- by the rows of the message and the length of its span
 abbrev pub verifying : (Signed → Bool) → List ℕ → List Row → ℕ → Answer (Unit {0})

@@ -1,17 +1,15 @@
 // Reads a message under a profile and a verifier.
 #![tactic(auto)]
 
-mod judgement;
-mod verification;
+mod listed;
 
-ghost use Rattle.wire.specs.Octets.{Octets};
 ghost use Rattle.reader.specs.Reads.{Reads};
 
-use judgement::judge;
+use listed::Listed;
 use profile::Profile;
 use verifier::Verifier;
 use walk::walk;
-use wire::{Refusal, Row, Walked, octets};
+use wire::{MOST_PAYLOADS, Refusal, Row, Walked};
 
 // Tells the payloads of a message that the profile admits and the verifier passes, in the first 24 rows, blank after the
 // last, and three numbers. Where it refuses, the rows are as they were.
@@ -23,26 +21,18 @@ pub fn read<P: Profile, V: Verifier>(
 ) -> Result<Walked, Refusal>
     ensures { Reads (P.tables profile.now) (V.passing verifier.now) message.now rows.old result rows.new }
 {
-    octets(message);
-    tell(message, rows, profile, verifier)
-}
-
-fn tell<P: Profile, V: Verifier>(
-    message: &[u8],
-    rows: &mut [Row],
-    profile: &P,
-    verifier: &V,
-) -> Result<Walked, Refusal>
-    requires { Octets message.now }
-    ensures { Reads (P.tables profile.now) (V.passing verifier.now) message.now rows.old result rows.new }
-{
-    if rows.len() < 24 {
+    if rows.len() < MOST_PAYLOADS {
         return Err(Refusal::FewRows);
     }
-    let mut table = [Row::BLANK; 24];
+    // A table of its own, as in walk, so that the caller's rows stay as they were until the last check has passed.
+    let mut table = [Row::BLANK; MOST_PAYLOADS];
     let walked = walk(message, &mut table)?;
-    let count = walked.count;
-    judge(profile, verifier, message, &table[0..count], walked.span)?;
-    rows[0..24].copy_from_slice(&table);
+    let listed = Listed {
+        message,
+        rows: &table[..walked.count],
+        span: walked.span,
+    };
+    listed.judge(profile, verifier)?;
+    rows[..MOST_PAYLOADS].copy_from_slice(&table);
     Ok(walked)
 }
