@@ -1,5 +1,5 @@
 -- The message of a draft where SIGN stands, as it is walked and as a profile is asked about it.
-use Rattle.std.proofs.Common.{◌≡◌, ℕ, ◌≤◌, List, length, take, Some, Ok, Err, sym, refl, ap, ◌∙◌, subst, ap₂, arith, take_at}
+use Rattle.std.proofs.Common.{◌≡◌, ℕ, ◌≤◌, List, length, take, Some, Ok, Err, sym, refl, ap, ◌∙◌, ap₂, arith, take_at}
 use Rattle.wire.specs.declared.refusal.Refusal.{Refusal}
 use Rattle.wire.specs.declared.row.Row.{Row}
 use Rattle.wire.specs.declared.row.Walked.{Walked}
@@ -9,28 +9,23 @@ use Rattle.wire.specs.Rows.{rows, header_length, walked_of, filled}
 use Rattle.wire.specs.Answers.{Answer}
 use Rattle.wire.proofs.Answers.{never_ok, same_ok}
 use Rattle.wire.proofs.Tiling.{rows_count}
-use Rattle.wire.proofs.Messages.{pieces_count}
 use Rattle.walk.specs.Walks.{Walks}
 use Rattle.profile.specs.Tables.{Tables}
 use Rattle.profile.specs.Admitting.{admitting}
-use Rattle.plain.specs.Kept.{HeaderKept}
+use Rattle.plain.proofs.Keeping.{sound_lawful}
 use Rattle.drafter.specs.declared.state.Core.{Core}
 use Rattle.drafter.specs.Cores.{plain_of}
 use Rattle.drafter.specs.Signs.{Signed, message_in, AdmitsBy}
-use Rattle.drafter.proofs.Standing.{signed_head, signed_some, signed_lawful, signed_full, full_counted, signed_lies}
+use Rattle.drafter.proofs.Standing.{g, signed_head, signed_some, signed_lawful, signed_full, full_counted, signed_lies}
 
 module _ (c : Core) (w : Signed c) where
   abbrev m : Message
   m = message_in (signed_head c w) c
 
   pub message_lawful : Lawful m
-  message_lawful = record {
-    header = subst HeaderKept (signed_some c w) w.shown.kept.sound.header;
-    payloads = w.shown.kept.sound.payloads;
-    sign = signed_lawful c w;
-    count = omega (arith, pieces_count m, w.shown.kept.sound.few);
-    size = omega (arith, signed_full c w, full_counted c w, w.shown.counted);
-  }
+  message_lawful =
+      sound_lawful c.counted (plain_of c).held (signed_head c w) (g c w) (omega (arith, w.shown.counted)) w.shown.kept.sound (signed_some c w) (signed_lawful c w)
+      (omega (arith, signed_full c w, full_counted c w))
 
   pub message_bytes : (n : ℕ) → n ≡ c.full → encode m ≡ take n c.buffer.now
   message_bytes n e = sym (ap (take n) (signed_lies c w) ∙ take_at (encode m) _ n (sym (e ∙ signed_full c w)))

@@ -1,20 +1,24 @@
 -- What edits are refused for, by the numbers of a draft in its buffer.
-use Rattle.std.proofs.Common.{◌≡◌, ℕ, ◌+◌, ◌-◌, ◌<◌, ◌≤◌, true, false, ltb, leb, List, [], ◌∷◌, length, take, drop, Some, None, Ok, Err, Option, sym, refl, ap, ◌∙◌, arith, take-append-drop}
+use Rattle.std.proofs.Common.{◌≡◌, ℕ, ◌+◌, ◌-◌, ◌<◌, Bool, true, false, ltb, leb, List, [], ◌∷◌, length, take, drop, Some, None, Ok, Err, Option, sym, refl, ap, ◌∙◌, ap₂, arith, add-one, take-append-drop}
 use Rattle.std.specs.List.{insert}
-use Rattle.std.proofs.lemmas.Bool.{le-leb, lt-leb, lt-ltb, le-ltb}
-use Rattle.wire.specs.declared.refusal.Refusal.{Refusal}
+use Rattle.std.proofs.Math.Dec.{leb-suc-suc}
+use Rattle.std.proofs.lemmas.Bool.Decides.{leb_tells}
+use Rattle.std.proofs.lemmas.Bool.{ltb-true}
 use Rattle.wire.specs.declared.refusal.Refusal.TheVariants.{NoPosition, DraftFull, NoRoom}
 use Rattle.wire.specs.Messages.{Header, Payload}
-use Rattle.wire.specs.Answers.{Answer}
-use Rattle.wire.proofs.Answers.{found, refused}
+use Rattle.wire.specs.Answers.{Answer, check, and_then}
+use Rattle.wire.proofs.Answers.{check_ok, and_then_ok, same_ok, found}
 use Rattle.plain.specs.Drafts.{Held, bytes_of}
 use Rattle.plain.specs.Offers.{asked, offering}
+use Rattle.plain.specs.Edits.{header_of}
 use Rattle.plain.specs.Edits.Edit.{add}
 use Rattle.plain.proofs.Joints.{lengths, lengths_append, lengths_one, front_long}
 use Rattle.plain.proofs.Offers.{offered_is}
+use Rattle.plain.proofs.Keeping.{header_found}
 use Rattle.drafter.specs.declared.state.Core.{Core}
 use Rattle.drafter.specs.Cores.{header_size, plain_of, Shown}
-use Rattle.drafter.specs.Edits.{asking}
+use Rattle.drafter.specs.Edits.{placing, asking}
+use Rattle.drafter.proofs.Showing.{end_is}
 
 some_header : (o : Option Header) → 0 < header_size o → (h : Header) × (o ≡ Some h)
 some_header None l = absurd (omega arith)
@@ -29,6 +33,64 @@ lengths_inserted ps i p =
     let d = ap lengths (take-append-drop i ps) in
     omega (arith, lengths_one p)
 
+-- a payload that is offered at a position: for one thing after the other
+abbrev pub offered_at : Option Header → Bool → Answer Payload → Bool → (Payload → Bool) → (Payload → Held) → Answer Held
+offered_at o a r f fits held = and_then (header_of o) (λ _. check a NoPosition (and_then r (λ p. check f DraftFull (check (fits p) NoRoom (Ok (held p))))))
+
+-- the same of what is asked alone
+abbrev pub asking_first : Option Header → Bool → Answer Payload → Bool → Bool → Answer (Unit {0})
+asking_first o a r f m =
+    and_then (and_then (header_of o) (λ _. check {A = Unit {0}} a NoPosition (Ok tt))) (λ _. and_then (asked r) (λ _. check f DraftFull (check m NoRoom (Ok tt))))
+
+pub offered_asked : (o : Option Header) (a : Bool) (r : Answer Payload) (f m : Bool) (fits : Payload → Bool) (held : Payload → Held)
+    → ((h : Header) (p : Payload) → o ≡ Some h → a ≡ true → r ≡ Ok p → fits p ≡ m)
+    → asking_first o a r f m ≡ asked (offered_at o a r f fits held)
+offered_asked None a r f m fits held k = refl
+offered_asked (Some h) false r f m fits held k = refl
+offered_asked (Some h) true (Err e) f m fits held k = refl
+offered_asked (Some h) true (Ok p) false m fits held k = refl
+offered_asked (Some h) true (Ok p) true true fits held k = rw (k h p refl refl refl)
+offered_asked (Some h) true (Ok p) true false fits held k = rw (k h p refl refl refl)
+
+-- one that is accepted
+pub record Offered (o : Option Header) (a : Bool) (r : Answer Payload) (f : Bool) (fits : Payload → Bool) (held : Payload → Held) : Type 0 where
+  pub header : Header
+  pub has : o ≡ Some header
+  pub there : a ≡ true
+  pub payload : Payload
+  pub is : r ≡ Ok payload
+  pub room : fits payload ≡ true
+  pub result : offered_at o a r f fits held ≡ Ok (held payload)
+
+pub offered : (o : Option Header) (a : Bool) (r : Answer Payload) (f : Bool) (fits : Payload → Bool) (held : Payload → Held)
+    → ◌≡◌ {A = Answer (Unit {0})} (Ok tt) (asked (offered_at o a r f fits held)) → Offered o a r f fits held
+offered o a r f fits held e =
+    let x = found (offered_at o a r f fits held) (λ _. tt) tt e in
+    let h = and_then_ok (header_of o) _ x.0 x.1 in
+    let b = check_ok a _ _ x.0 h.2 in
+    let q = and_then_ok r _ x.0 b.1 in
+    let g = check_ok f _ _ x.0 q.2 in
+    let k = check_ok (fits q.0) _ (Ok (held q.0)) x.0 g.1 in
+    record {
+      header = h.0;
+      has = header_found o h.0 h.1;
+      there = b.0;
+      payload = q.0;
+      is = q.1;
+      room = k.0;
+      result = x.1 ∙ ap Ok (sym (same_ok (held q.0) x.0 k.1));
+    }
+
+pub room_left : (counted end n : ℕ) → leb (end + (1 + n)) counted ≡ ltb n (counted - end)
+room_left counted end n = grind (arith, leb_tells)
+
+-- a position alone
+pub place_asked : (o : Option Header) (a : Bool) (d : Held)
+    → ◌≡◌ {A = Answer (Unit {0})} (and_then (header_of o) (λ _. check a NoPosition (Ok tt))) (asked (and_then (header_of o) (λ _. check a NoPosition (Ok d))))
+place_asked None a d = refl
+place_asked (Some h) true d = refl
+place_asked (Some h) false d = refl
+
 module _ (c : Core) (w : Shown c) where
   abbrev d : Held
   d = (plain_of c).held
@@ -36,50 +98,36 @@ module _ (c : Core) (w : Shown c) where
   pub with_header : 0 < c.header → (h : Header) × (d.header ≡ Some h)
   with_header l = some_header d.header (omega (arith, w.header))
 
-  -- what an offered payload is refused for
-  module _ (h : Header) (e : d.header ≡ Some h) (i code : ℕ) (body : List ℕ) where
-    abbrev Add : Answer (Unit {0})
-    Add = asking (add i code body) c
+  pub placed : (i places : ℕ) → ◌≡◌ {A = Answer (Unit {0})} (Ok tt) (placing i places c) → (h : Header) × ((d.header ≡ Some h) × (i < places))
+  placed i places a =
+      let x = and_then_ok (header_of d.header) _ tt (sym a) in
+      let b = check_ok (ltb i places) _ _ tt x.2 in
+      (x.0, (header_found d.header x.0 x.1, ltb-true _ _ b.0))
 
-    pub add_elsewhere : c.count < i → Err NoPosition ≡ Add
-    add_elsewhere l = let t : leb i (length d.payloads) ≡ false = lt-leb _ _ (omega (arith, w.count)) in sym (rw (e, t))
+  module _ (i code : ℕ) (body : List ℕ) where
+    pub longer : (h : Header) (p : Payload) → d.header ≡ Some h → offering code body ≡ Ok p → length (bytes_of d.header (insert d.payloads i p) None) ≡ c.end + (1 + length body)
+    longer h p e is =
+        let a = front_long 0 h (insert d.payloads i p) in
+        let b = front_long 0 h d.payloads in
+        let n = lengths_inserted d.payloads i p in
+        let q = ap length (offered_is code body p is).holds in
+        let x = ap (λ o. length (bytes_of o (insert d.payloads i p) None)) e in
+        let z = end_is c w h e in
+        omega arith
 
-    module _ (l : i ≤ c.count) where
-      there : leb i (length d.payloads) ≡ true
-      there = le-leb _ _ (omega (arith, w.count))
+    -- what an add is refused for, by the draft's numbers
+    abbrev pub adding : Answer (Unit {0})
+    adding =
+        and_then (placing i (c.count + 1) c) (λ _.
+        and_then (asked (offering code body)) (λ _.
+        check (ltb c.count 23) DraftFull
+        (check (ltb (length body) (c.counted - c.end)) NoRoom (Ok tt))))
 
-      pub add_refused : (f : Refusal) → Err f ≡ asked (offering code body) → Err f ≡ Add
-      add_refused f r = sym (rw (e, there, refused (offering code body) (λ _. tt) f r))
-
-      module _ (o : ◌≡◌ {A = Answer (Unit {0})} (Ok tt) (asked (offering code body))) where
-        abbrev p : Payload
-        p = (found (offering code body) (λ _. tt) tt o).0
-
-        is : offering code body ≡ Ok p
-        is = (found (offering code body) (λ _. tt) tt o).1
-
-        pub add_full : 23 ≤ c.count → Err DraftFull ≡ Add
-        add_full m = let t : ltb (length d.payloads) 23 ≡ false = le-ltb _ _ (omega (arith, w.count)) in sym (rw (e, there, is, t))
-
-        module _ (m : c.count < 23) where
-          few : ltb (length d.payloads) 23 ≡ true
-          few = lt-ltb _ _ (omega (arith, w.count))
-
-          longer : length (bytes_of (Some h) (insert d.payloads i p) None) ≡ c.end + (1 + length body)
-          longer =
-              let a = front_long 0 h (insert d.payloads i p) in
-              let b = front_long 0 h d.payloads in
-              let n = lengths_inserted d.payloads i p in
-              let q = ap length (offered_is code body p is).holds in
-              let z = w.end ∙ ap (λ x. length (bytes_of x d.payloads None)) e in
-              omega arith
-
-          pub add_cramped : c.counted - c.end ≤ length body → Err NoRoom ≡ Add
-          add_cramped r =
-              let t : leb (length (bytes_of (Some h) (insert d.payloads i p) None)) c.counted ≡ false = lt-leb _ _ (omega (arith, longer, w.end, w.kept.sound.fits)) in
-              sym (rw (e, there, is, few, t))
-
-          pub add_accepted : length body < c.counted - c.end → ◌≡◌ {A = Answer (Unit {0})} (Ok tt) Add
-          add_accepted r =
-              let t : leb (length (bytes_of (Some h) (insert d.payloads i p) None)) c.counted ≡ true = le-leb _ _ (omega (arith, longer)) in
-              sym (rw (e, there, is, few, t))
+    pub add_told : {r : Answer (Unit {0})} → r ≡ adding → r ≡ asking (add i code body) c
+    add_told told =
+        let t : ltb i (c.count + 1) ≡ leb i (length d.payloads) = ap (λ n. ltb i (n + 1)) w.count ∙ ap (ltb i) (add-one (length d.payloads)) ∙ leb-suc-suc i (length d.payloads) in
+        let f : ltb c.count 23 ≡ ltb (length d.payloads) 23 = ap (λ n. ltb n 23) w.count in
+        told ∙ ap₂ (λ a b. asking_first d.header a (offering code body) b (ltb (length body) (c.counted - c.end))) t f
+        ∙ offered_asked d.header (leb i (length d.payloads)) (offering code body) (ltb (length d.payloads) 23) (ltb (length body) (c.counted - c.end))
+        (λ p. leb (length (bytes_of d.header (insert d.payloads i p) None)) c.counted) (λ p. record { header = d.header; payloads = insert d.payloads i p })
+        (λ h p e _ q. ap (λ n. leb n c.counted) (longer h p e q) ∙ room_left c.counted c.end (length body))

@@ -1,5 +1,5 @@
 -- A call on a draft, as its caller sees it.
-use Rattle.std.proofs.Common.{◌≡◌, ℕ, ◌-◌, ◌≤◌, Bool, true, false, eqb, List, ◌++◌, length, take, drop, replicate, Ok, Err, sym, refl, ap, ◌∙◌, subst, arith, length-append, length-drop, take_at, drop_at}
+use Rattle.std.proofs.Common.{◌≡◌, ℕ, ◌≤◌, Bool, true, false, eqb, List, ◌++◌, length, drop, replicate, Ok, Err, sym, refl, ap, ◌∙◌, subst, arith, length-append, length-drop, drop_at}
 use lib.ListN.{length-replicate}
 use Rattle.std.proofs.lemmas.Bool.{false≢true}
 use Rattle.wire.specs.Answers.{Answer}
@@ -12,56 +12,40 @@ use Rattle.plain.specs.Offers.{asked}
 use Rattle.plain.specs.Edits.{Edit, editing}
 use Rattle.plain.specs.Steps.{Step, closing, closed, turn, edited, signed, taken, step}
 use Rattle.plain.specs.Steps.Step.{edit, close, sign, withdraw}
-use Rattle.plain.specs.Turns.{settled, Turns}
-use Rattle.plain.proofs.Turning.{turns}
+use Rattle.plain.specs.Turns.{settled}
+use Rattle.plain.proofs.Turning.{image_same, turns}
 use Rattle.plain.proofs.Keeping.{begin_kept}
 use Rattle.drafter.specs.declared.state.Core.{Core}
-use Rattle.drafter.specs.declared.state.Phase.{Phase}
 use Rattle.drafter.specs.declared.state.Phase.TheVariants as phase
 use Rattle.drafter.specs.Cores.{phase_of, Shows, plain_of, Shown, Becomes}
 use Rattle.drafter.specs.Edits.{Editable, asking, Leaves}
-use Rattle.drafter.specs.Signs.{At, Follows, is_open, is_out, OutDraft}
+use Rattle.drafter.specs.Signs.{At, Follows, is_out, OutDraft}
+use Rattle.drafter.specs.Calls.{Makes}
+use Rattle.drafter.specs.Views.{view_of, Turned}
 use Rattle.drafter.proofs.Showing.{plain_is, shown}
-use Rattle.drafter.proofs.Stable.{shown_stable}
 use Rattle.drafter.proofs.Opened.{open_stage}
-
-is_open_lem : (p : Phase) → is_open p ≡ true → p ≡ phase.Open
-is_open_lem phase.Open e = refl
-is_open_lem (phase.Signing l) e = absurd (false≢true e)
-is_open_lem (phase.Faulty f) e = absurd (false≢true e)
-is_open_lem phase.Released e = absurd (false≢true e)
-
--- what a draft's ghosts say
-pub editable : (c : Core) → ∥ Shown c ∥₁ → is_open c.phase ≡ true → Editable c
-editable c t e = record { shown = shown_stable c t; open' = is_open_lem c.phase e }
-
-pub out_draft : (c : Core) → ∥ Shown c ∥₁ → is_out c.phase ≡ true → OutDraft c
-out_draft c t e = record { shown = shown_stable c t; out = e }
-
-pub becomes_shown : (s : Draft) (before after : Core) → Becomes s before after → ∥ Shown after ∥₁
-becomes_shown s before after b = ∣ shown s after b.shows ∣₁
 
 -- one step, and what its caller may say of it
 module _ (c : Step) (before after : Core) (w : Shown before) where
   abbrev bs : List ℕ
   bs = before.buffer.now
 
-  image_same : (s : Draft) → Becomes s before after → after.buffer.now ≡ image bs s
-  image_same s b =
-      let n : counted after.buffer.now ≡ before.counted = omega (arith, b.long, w.counted) in
-      b.shows.is ∙ ap (λ k. encoded s ++ (replicate (k - length (encoded s)) 0 ++ drop k after.buffer.now)) n
-      ∙ ap (λ x. encoded s ++ (replicate (before.counted - length (encoded s)) 0 ++ x)) b.rest
-      ∙ ap (λ k. encoded s ++ (replicate (k - length (encoded s)) 0 ++ drop k bs)) w.counted
-
-  pub becomes_turns : (reply : Reply) → reply ≡ (step before.counted (plain_of before) c).reply → Becomes (step before.counted (plain_of before) c).draft before after
-      → Turns c (plain_of before) (plain_of after) bs after.buffer.now reply
-  becomes_turns reply answer b =
+  pub made_turns : (reply : Reply) → Makes c before after reply → Turned c (view_of before) (view_of after) reply
+  made_turns reply m =
+      let b = m.follows in
       let s : Draft = (step before.counted (plain_of before) c).draft in
       let same : plain_of after ≡ s = plain_is s after b.shows in
+      let past = subst (λ k. drop k after.buffer.now ≡ drop k bs) w.counted b.rest in
       let room : step before.counted (plain_of before) c ≡ step (counted bs) (plain_of before) c = ap (λ n. step n (plain_of before) c) w.counted in
-      turns c (plain_of before) (plain_of after) bs after.buffer.now reply (answer ∙ ap (λ t. t.reply) room) (same ∙ ap (λ t. t.draft) room)
-      (image_same s b ∙ ap (image bs) (sym same)) w.is
-      (subst (λ x. length (encoded x) ≤ counted bs) (sym same) (omega (arith, b.shows.kept.fits, b.room, w.counted)))
+      record {
+        turns = turns c (plain_of before) (plain_of after) bs after.buffer.now reply (m.answer ∙ ap (λ t. t.reply) room) (same ∙ ap (λ t. t.draft) room)
+            (b.shows.is ∙ image_same after.buffer.now bs s b.long past ∙ ap (image bs) (sym same)) w.is
+            (subst (λ x. length (encoded x) ≤ counted bs) (sym same) (omega (arith, b.shows.kept.fits, b.room, w.counted)));
+        name = b.name;
+      }
+
+pub made_shown : (c : Step) (before after : Core) (reply : Reply) → Makes c before after reply → Shown after
+made_shown c before after reply m = shown _ after m.follows.shows
 
 -- an edit of an open draft
 module _ (c : Core) (w : Editable c) (x : Edit) where
@@ -76,26 +60,17 @@ module _ (c : Core) (w : Editable c) (x : Edit) where
   stays_open d (Ok e) = refl
   stays_open d (Err f) = refl
 
-  pub edit_open : (after : Core) → Leaves x c after → is_open after.phase ≡ true
-  edit_open after b =
-      ap is_open (b.shows.phase ∙ ap phase_of (stays_open (plain_of c).held (editing c.counted (plain_of c).held x)))
+  pub edit_made : (after : Core) (r : Answer (Unit {0})) → r ≡ asking x c → Leaves x c after → Makes (edit x) c after (settled r)
+  edit_made after r e b = record {
+    answer = ap settled e ∙ told (plain_of c).held (editing c.counted (plain_of c).held x) ∙ sym (ap (λ t. t.reply) edit_step);
+    follows = subst (λ t. Becomes t.draft c after) (sym edit_step) b;
+  }
 
-  -- the same by the plain draft's step
-  module _ (after : Core) (r : Answer (Unit {0})) (e : r ≡ asking x c) (b : Leaves x c after) where
-    edit_reply : settled r ≡ (step c.counted (plain_of c) (edit x)).reply
-    edit_reply = ap settled e ∙ told (plain_of c).held (editing c.counted (plain_of c).held x) ∙ sym (ap (λ t. t.reply) edit_step)
-
-    edit_becomes : Follows (edit x) c after
-    edit_becomes = subst (λ t. Becomes t.draft c after) (sym edit_step) b
-
-    pub edit_answers : (s : Step) → s ≡ edit x → (reply : Reply) → reply ≡ settled r → reply ≡ (step c.counted (plain_of c) s).reply
-    edit_answers s q reply a = a ∙ edit_reply ∙ ap (λ z. (step c.counted (plain_of c) z).reply) (sym q)
-
-    pub edit_follows : (s : Step) → s ≡ edit x → Follows s c after
-    edit_follows s q = subst (λ z. Follows z c after) (sym q) edit_becomes
-
-    pub edit_turns : Turns (edit x) (plain_of c) (plain_of after) c.buffer.now after.buffer.now (settled r)
-    edit_turns = becomes_turns (edit x) c after w.shown (settled r) edit_reply edit_becomes
+  pub edit_open : (after : Core) (reply : Reply) → Makes (edit x) c after reply → Editable after
+  edit_open after reply m = record {
+    shown = made_shown (edit x) c after reply m;
+    open' = m.follows.shows.phase ∙ ap phase_of (ap (λ t. t.draft.stage) edit_step ∙ stays_open (plain_of c).held (editing c.counted (plain_of c).held x));
+  }
 
 -- a buffer of which the counted bytes are zeros
 pub begun_image : (bs after : List ℕ) (n : ℕ) → n ≡ counted bs → after ≡ replicate n 0 ++ drop n bs → after ≡ image bs begin
@@ -120,9 +95,6 @@ begun_shows c bs n e b counts header count end full open' =
       is = begun_image c.buffer.now c.buffer.now n m (b ∙ ap (λ x. zeros ++ x) (sym rest));
     }
 
-pub begun_shown : (c : Core) → Shows begin c → ∥ Shown c ∥₁
-begun_shown c w = ∣ shown begin c w ∣₁
-
 -- a draft that is closed
 module _ (c : Core) (w : Editable c) (T : Tables) (type n : ℕ) where
   abbrev stage : Stage
@@ -135,14 +107,11 @@ module _ (c : Core) (w : Editable c) (T : Tables) (type n : ℕ) where
   closed_out (Ok u) = refl
   closed_out (Err f) = refl
 
-  pub close_out : (after : Core) → At stage c after → is_out after.phase ≡ true
-  close_out after b = ap is_out b.shows.phase ∙ closed_out (closing c.counted (plain_of c).held T type n)
+  pub close_out : (after : Core) → At stage c after → OutDraft after
+  close_out after b = record { shown = shown _ after b.shows; out = ap is_out b.shows.phase ∙ closed_out (closing c.counted (plain_of c).held T type n) }
 
-  pub close_follows : (after : Core) → At stage c after → Follows (close T type n) c after
-  close_follows after b = subst (λ t. Becomes t.draft c after) (sym close_step) b
-
-  pub close_turns : (after : Core) → At stage c after → Turns (close T type n) (plain_of c) (plain_of after) c.buffer.now after.buffer.now Done
-  close_turns after b = becomes_turns (close T type n) c after w.shown Done (sym (ap (λ t. t.reply) close_step)) (close_follows after b)
+  pub close_made : (after : Core) → At stage c after → Makes (close T type n) c after Done
+  close_made after b = record { answer = sym (ap (λ t. t.reply) close_step); follows = subst (λ t. Becomes t.draft c after) (sym close_step) b }
 
 -- a draft that is out
 module _ (n : ℕ) (d : Held) where
@@ -166,12 +135,8 @@ module _ (c : Core) (w : OutDraft c) where
   stage_out : is_out (phase_of (plain_of c).stage) ≡ true
   stage_out = ap is_out (sym w.shown.phase) ∙ w.out
 
-  pub sign_out : (after : Core) (s : List ℕ) → Follows (sign s) c after → is_out after.phase ≡ true
-  sign_out after s b = ap is_out b.shows.phase ∙ sign_stays c.counted (plain_of c).held (plain_of c).stage s stage_out
+  pub sign_out : (after : Core) (s : List ℕ) → Follows (sign s) c after → OutDraft after
+  sign_out after s b = record { shown = shown _ after b.shows; out = ap is_out b.shows.phase ∙ sign_stays c.counted (plain_of c).held (plain_of c).stage s stage_out }
 
-  pub withdraw_reply : Done ≡ (step c.counted (plain_of c) withdraw).reply
-  withdraw_reply = withdraw_done c.counted (plain_of c).held (plain_of c).stage stage_out
-
--- the encoding at the front of the buffer
-pub encoding_there : (c : Core) → Shown c → take (c.full - 0) c.buffer.now ≡ encoded (plain_of c)
-encoding_there c w = ap (take (c.full - 0)) w.is ∙ take_at (encoded (plain_of c)) _ (c.full - 0) (omega (arith, w.full))
+  pub withdraw_made : (after : Core) → Follows withdraw c after → Makes withdraw c after Done
+  withdraw_made after b = record { answer = withdraw_done c.counted (plain_of c).held (plain_of c).stage stage_out; follows = b }

@@ -1,43 +1,39 @@
 -- A draft that is closed.
 use Rattle.std.proofs.Common.{◌≡◌, ℕ, ◌+◌, ◌-◌, ◌<◌, ◌≤◌, Bool, true, false, leb, length, drop, Some, None, Ok, Err, Option, sym, refl, ap, ◌∙◌, subst, ap₂, arith}
 use lib.ListN.{length-replicate}
-use Rattle.std.proofs.lemmas.Bool.{leb-true, le-leb, lt-leb, and_parts}
+use Rattle.std.proofs.lemmas.Bool.{leb-true, le-leb, lt-leb}
 use Rattle.wire.specs.declared.refusal.Refusal.{Refusal}
 use Rattle.wire.specs.declared.refusal.Refusal.TheVariants.{SignForm, NoRoom}
 use Rattle.wire.specs.Messages.{Header, encode}
 use Rattle.wire.specs.Rows.{rows}
 use Rattle.wire.specs.Answers.{Answer, check, and_then}
-use Rattle.wire.proofs.Answers.{check_ok, and_then_ok, never_ok}
+use Rattle.wire.proofs.Answers.{never_ok, same_err}
 use Rattle.profile.specs.Tables.{Tables}
 use Rattle.profile.specs.Admitting.{admitting}
 use Rattle.plain.specs.Drafts.{Held, signed_as}
 use Rattle.plain.specs.Drafts.Stage.{opened, signing}
 use Rattle.plain.specs.Edits.{header_of}
 use Rattle.plain.specs.Steps.{sign_fits, unsigned, closing}
-use Rattle.plain.proofs.Keeping.{header_found}
+use Rattle.plain.proofs.Keeping.{closable}
 use Rattle.drafter.specs.declared.state.Core.{Core}
 use Rattle.drafter.specs.Cores.{Shows, sign_in, plain_of}
 use Rattle.drafter.specs.Edits.{Editable}
 use Rattle.drafter.specs.Signs.{Signed, At, message_in, AdmitsBy, standable}
-use Rattle.drafter.proofs.Showing.{plain_is, shown, sign_same, sign_lawful}
-use Rattle.drafter.proofs.Imaging.{stays}
-use Rattle.drafter.proofs.Opened.{open_stage, end_is, end_counted}
+use Rattle.drafter.proofs.Showing.{plain_is, shown, end_is, sign_same, sign_lawful}
+use Rattle.drafter.proofs.Opened.{end_counted}
 use Rattle.drafter.proofs.Standing.{encode_long}
-
-same_refusal : {A B : Type 0} (f g : Refusal) → ◌≡◌ {A = Answer A} (Err f) (Err g) → ◌≡◌ {A = Answer B} (Err f) (Err g)
-same_refusal f g e = let q : f ≡ g = cc in ap Err q
 
 early_checks : {A : Type 0} (a b : Bool) (f k g : Refusal) (r : Answer A) → check a f (check {A = Unit {0}} b k (Ok tt)) ≡ Err g → check a f (check b k r) ≡ Err g
 early_checks true true f k g r e = absurd (never_ok g tt (sym e))
-early_checks true false f k g r e = same_refusal {A = Unit {0}} k g e
-early_checks false b f k g r e = same_refusal {A = Unit {0}} f g e
+early_checks true false f k g r e = ap Err (same_err {A = Unit {0}} k g e)
+early_checks false b f k g r e = ap Err (same_err {A = Unit {0}} f g e)
 
 module _ (c : Core) (w : Editable c) (type n : ℕ) where
   abbrev d : Held
   d = (plain_of c).held
 
   message_long : (h : Header) → d.header ≡ Some h → length (encode (signed_as h d.payloads (unsigned type n))) ≡ c.end + (2 + n)
-  message_long h e = omega (arith, encode_long h d.payloads (unsigned type n), end_is c w h e, length-replicate {A = ℕ} n 0)
+  message_long h e = omega (arith, encode_long h d.payloads (unsigned type n), end_is c w.shown h e, length-replicate {A = ℕ} n 0)
 
   module _ (h : Header) (e : d.header ≡ Some h) (f : sign_fits type n ≡ true) where
     pub close_cramped : c.counted - c.end < n + 2 → Err NoRoom ≡ standable c type n
@@ -54,30 +50,19 @@ module _ (c : Core) (w : Editable c) (type n : ℕ) where
   pub record Stands : Type 0 where
     pub header : Header
     pub has : d.header ≡ Some header
-    pub small : type < 16
-    pub least : 0 < n
-    pub most : n < 4096
     pub room : c.end + (2 + n) ≤ c.counted
     pub fits : sign_fits type n ≡ true
     pub there : leb (length (encode (signed_as header d.payloads (unsigned type n)))) c.counted ≡ true
 
   pub stands : ◌≡◌ {A = Answer (Unit {0})} (Ok tt) (standable c type n) → Stands
   stands a =
-      let x = and_then_ok (header_of d.header) _ tt (sym a) in
-      let has = header_found d.header x.0 x.1 in
-      let f = check_ok (sign_fits type n) _ _ tt x.2 in
-      let r = check_ok (leb (length (encode (signed_as x.0 d.payloads (unsigned type n)))) c.counted) _ _ tt f.1 in
-      let p = and_parts (leb type 15) _ f.0 in
-      let q = and_parts (leb 1 n) _ p.1 in
+      let x = closable c.counted d (λ _. Ok tt) type n tt (sym a) in
       record {
-        header = x.0;
-        has = has;
-        small = omega (arith, leb-true _ _ p.0);
-        least = omega (arith, leb-true _ _ q.0);
-        most = omega (arith, leb-true _ _ q.1);
-        room = omega (arith, leb-true _ _ r.0, message_long x.0 has);
-        fits = f.0;
-        there = r.0;
+        header = x.header;
+        has = x.has;
+        room = omega (arith, leb-true _ _ x.fits, message_long x.header x.has);
+        fits = x.form;
+        there = x.fits;
       }
 
   -- the whole close, by what it was refused for first
@@ -96,9 +81,6 @@ module _ (c : Core) (w : Editable c) (type n : ℕ) where
   pub early_refused : (T : Tables) (g : Refusal) → Err g ≡ standable c type n → Err g ≡ closing c.counted d T type n
   early_refused T g e = sym (early T d.header g (sym e))
 
-  pub still_open : At opened c c
-  still_open = stays _ c (subst (λ s. Shows s c) (ap (λ g. record { held = d; stage = g }) (open_stage c w)) w.shown)
-
 -- SIGN stands: the draft in between
 module _ (c during : Core) (w : Editable c) (type n : ℕ) (t : At (signing (unsigned type n) 0) c during) where
   between : plain_of during ≡ record { held = (plain_of c).held; stage = signing (unsigned type n) 0 }
@@ -111,7 +93,7 @@ module _ (c during : Core) (w : Editable c) (type n : ℕ) (t : At (signing (uns
   sign_is = sign_same _ during t.shows (unsigned type n) refl (sign_lawful _ during t.shows (unsigned type n) refl)
 
   module _ (T : Tables) (s : Stands c w type n) (r : Answer (Unit {0})) (a : AdmitsBy T during r) where
-    pub closing_told : r ≡ closing c.counted (plain_of c).held T type n
+    closing_told : r ≡ closing c.counted (plain_of c).held T type n
     closing_told =
         let h : Header = s.header in
         let held : (plain_of during).held ≡ (plain_of c).held = ap (λ x. x.held) between in
@@ -123,7 +105,14 @@ module _ (c during : Core) (w : Editable c) (type n : ℕ) (t : At (signing (uns
   pub fallen_open : (after : Core) → At opened during after → At opened c after
   fallen_open after f = record {
     shows = subst (λ x. Shows (record { held = x.held; stage = opened }) after) between f.shows;
+    name = f.name ∙ t.name;
     room = f.room ∙ t.room;
     long = f.long ∙ t.long;
     rest = ap (λ n. drop n after.buffer.now) (sym t.room) ∙ f.rest ∙ ap (λ n. drop n during.buffer.now) t.room ∙ t.rest;
   }
+
+-- what the profile refuses once SIGN stands with a form's numbers is what the whole close is refused for
+pub close_told : (c during : Core) (w : Editable c) (a b type n : ℕ) → (a ≡ type) × (b ≡ n) → ◌≡◌ {A = Answer (Unit {0})} (Ok tt) (standable c type n)
+    → At (signing (unsigned a b) 0) c during → (T : Tables) (r : Answer (Unit {0})) → AdmitsBy T during r → r ≡ closing c.counted (plain_of c).held T type n
+close_told c during w a b type n f s t T r q =
+    closing_told c during w type n (subst (λ g. At (signing g 0) c during) (ap₂ unsigned f.0 f.1) t) T (stands c w type n s) r q

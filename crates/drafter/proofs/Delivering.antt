@@ -1,5 +1,5 @@
 -- A signature that is written into the buffer.
-use Rattle.std.proofs.Common.{◌≡◌, ℕ, ◌+◌, ◌-◌, ◌*◌, Bool, true, false, eqb, List, ◌++◌, length, take, drop, replicate, Some, None, sym, ap, ◌∙◌, subst, ap₂, append_assoc, arith, length-append, take_at, drop_at}
+use Rattle.std.proofs.Common.{◌≡◌, ℕ, ◌+◌, ◌-◌, ◌*◌, Bool, true, false, eqb, List, ◌++◌, length, take, drop, replicate, Some, sym, refl, ap, ◌∙◌, subst, ap₂, append_assoc, arith, length-append, take_at, drop_at}
 use Rattle.std.proofs.lemmas.Bool.{eq-eqb, ne_eqb}
 use Rattle.std.proofs.lemmas.List.{drop-drop}
 use Rattle.wire.specs.declared.refusal.Refusal.TheVariants.{SignatureLength}
@@ -18,7 +18,8 @@ use Rattle.drafter.specs.Buffers.{laid}
 use Rattle.drafter.specs.Cores.{Shows, plain_of, Becomes}
 use Rattle.drafter.specs.Signs.{Signed, Follows}
 use Rattle.drafter.proofs.Spotting.{same_front}
-use Rattle.drafter.proofs.Imaging.{turned_becomes, stays}
+use Rattle.drafter.proofs.Showing.{end_is}
+use Rattle.drafter.proofs.Imaging.{rewritten_becomes, stays}
 use Rattle.drafter.proofs.Standing.{g, signed_stage, signed_head, signed_some, signed_full, signed_lies}
 
 module _ (c : Core) (w : Signed c) (signature : List ℕ) where
@@ -77,7 +78,7 @@ module _ (c : Core) (w : Signed c) (signature : List ℕ) where
         let split : c.buffer.now ≡ x ++ (held.signature ++ rest m) =
         signed_lies c w ∙ ap (λ z. z ++ rest m) (sym (append_assoc (front 4 h ps) two held.signature)) ∙ append_assoc x held.signature (rest m) in
         let n : length x ≡ c.end + 2 =
-        omega (arith, length-append (front 4 h ps) two, same_front 4 0 h ps, w.shown.end ∙ ap (λ o. length (bytes_of o ps None)) (signed_some c w)) in
+        omega (arith, length-append (front 4 h ps) two, same_front 4 0 h ps, end_is c w.shown h (signed_some c w)) in
         let first : take (c.end + 2) c.buffer.now ≡ x = ap (take (c.end + 2)) split ∙ take_at x (held.signature ++ rest m) (c.end + 2) n in
         let last : drop (c.end + 2 + length signature) c.buffer.now ≡ rest m =
         sym (drop-drop (length signature) (c.end + 2) c.buffer.now) ∙ ap (drop (length signature)) (ap (drop (c.end + 2)) split ∙ drop_at x (held.signature ++ rest m) (c.end + 2) n)
@@ -88,18 +89,19 @@ module _ (c : Core) (w : Signed c) (signature : List ℕ) where
         ∙ sym (append_assoc (front 4 h ps ++ sign_length held.type signature) signature (rest (length (encode (signed_as h ps new)))))
         ∙ ap (λ z. z ++ rest (length (encode (signed_as h ps new)))) (append_assoc (front 4 h ps) (sign_length held.type signature) signature)
 
-    pub right_follows : (after : Core) → after.buffer.now ≡ laid (c.end + 2) signature c.buffer.now → length after.buffer.now ≡ length c.buffer.now → after.counted ≡ c.counted
-        → after.header ≡ c.header → after.count ≡ c.count → after.end ≡ c.end → after.full ≡ c.full → after.phase ≡ phase.Signing c.full → Follows (sign signature) c after
-    right_follows after bytes size counted header count end full out =
-        let some = sym (signed_some c w) in
+    pub right_follows : (bs : List ℕ) → bs ≡ laid (c.end + 2) signature c.buffer.now
+        → Follows (sign signature) c (record c { buffer = record c.buffer { now = bs }; phase = phase.Signing c.full })
+    right_follows bs bytes =
+        let after : Core = record c { buffer = record c.buffer { now = bs }; phase = phase.Signing c.full } in
         let kept = subst (λ t. Kept c.counted t.draft) right (step_kept c.counted (plain_of c) (sign signature) y w.shown.kept) in
-        subst (λ t. Becomes t.draft c after) (sym right) (turned_becomes (plain_of c) target c after w.shown kept (record {
-          long = size;
-          counted = counted;
-          header = header ∙ w.shown.header;
-          count = count ∙ w.shown.count;
-          end = end ∙ w.shown.end;
-          full = full ∙ sym bytes_long;
-          phase = out ∙ ap phase.Signing (sym bytes_long);
-          bytes = bytes ∙ written ∙ ap (λ o. bytes_of o ps (Some new) ++ (replicate (c.counted - length (bytes_of o ps (Some new))) 0 ++ drop c.counted c.buffer.now)) some;
+        subst (λ t. Becomes t.draft c after) (sym right) (rewritten_becomes (plain_of c) target c after w.shown kept (record {
+          counted = refl;
+          name = refl;
+          header = w.shown.header;
+          count = w.shown.count;
+          end = w.shown.end;
+          full = sym bytes_long;
+          phase = ap phase.Signing (sym bytes_long);
+          bytes = bytes ∙ written
+              ∙ ap (λ o. bytes_of o ps (Some new) ++ (replicate (c.counted - length (bytes_of o ps (Some new))) 0 ++ drop c.counted c.buffer.now)) (sym (signed_some c w));
         }))

@@ -1,12 +1,12 @@
 -- A header that is set in the buffer.
-use Rattle.std.proofs.Common.{◌≡◌, ℕ, ◌+◌, ◌-◌, ◌<◌, ◌≤◌, true, false, leb, List, [], ◌++◌, length, Some, None, Ok, Err, Option, sym, refl, ap, ◌∙◌, arith, length-append}
-use Rattle.std.proofs.lemmas.Bool.{leb-true, le-leb, lt-leb}
+use Rattle.std.proofs.Common.{◌≡◌, ℕ, ◌+◌, ◌-◌, ◌≤◌, Bool, true, false, leb, List, [], ◌++◌, length, Some, None, Ok, Err, Option, sym, refl, ap, ◌∙◌, arith, length-append}
+use Rattle.std.proofs.lemmas.Bool.Decides.{leb_tells}
+use Rattle.std.proofs.lemmas.Bool.{leb-true}
 use Rattle.std.proofs.lemmas.List.{nil_from_length}
-use Rattle.wire.specs.declared.refusal.Refusal.{Refusal}
 use Rattle.wire.specs.declared.refusal.Refusal.TheVariants.{NoRoom}
 use Rattle.wire.specs.Messages.{Header, Payload, first, header_bytes, payloads_bytes}
-use Rattle.wire.specs.Answers.{Answer}
-use Rattle.wire.proofs.Answers.{check_ok, and_then_ok, same_ok, found, refused}
+use Rattle.wire.specs.Answers.{Answer, check, and_then}
+use Rattle.wire.proofs.Answers.{check_ok, and_then_ok, same_ok, found}
 use Rattle.plain.specs.Drafts.{Held, bytes_of}
 use Rattle.plain.specs.Offers.{asked, mapping}
 use Rattle.plain.specs.Edits.{editing}
@@ -14,11 +14,11 @@ use Rattle.plain.specs.Edits.Edit.{head}
 use Rattle.plain.specs.Kept.{EditWidths}
 use Rattle.plain.proofs.Joints.{lengths, payloads_long, front_long}
 use Rattle.drafter.specs.declared.state.Core.{Core}
-use Rattle.drafter.specs.Buffers.{HeaderPut}
+use Rattle.drafter.specs.Buffers.{Spliced}
 use Rattle.drafter.specs.Cores.{header_size, plain_of}
 use Rattle.drafter.specs.Edits.{Editable, first_in, asking, Accepted, Leaves}
 use Rattle.drafter.proofs.Imaging.{headed_lies, edit_leaves}
-use Rattle.drafter.proofs.Opened.{counted_within, end_counted, open_lies, open_used}
+use Rattle.drafter.proofs.Opened.{counted_within, open_lies, open_used}
 
 -- the bytes of a header, or none
 abbrev header_part : Option Header → List Payload → List ℕ
@@ -32,6 +32,16 @@ part_long (Some h) ps = omega arith
 parted : (o : Option Header) (ps : List Payload) → (o ≡ None → length ps ≡ 0) → bytes_of o ps None ≡ header_part o ps ++ payloads_bytes 0 ps
 parted None ps e = ap (payloads_bytes 0) (sym (nil_from_length ps (e refl)))
 parted (Some h) ps e = refl
+
+-- the map, and then room
+mapped_asked : (r : Answer (List ℕ)) (a : Bool) (d : Held)
+    → ◌≡◌ {A = Answer (Unit {0})} (and_then (asked r) (λ _. check a NoRoom (Ok tt))) (asked (and_then r (λ _. check a NoRoom (Ok d))))
+mapped_asked (Err f) a d = refl
+mapped_asked (Ok info) true d = refl
+mapped_asked (Ok info) false d = refl
+
+room_for : (others counted n : ℕ) → leb (10 + n) (counted - others) ≡ leb (others + (10 + n)) counted
+room_for others counted n = grind (arith, leb_tells)
 
 module _ (c : Core) (w : Editable c) where
   abbrev d : Held
@@ -56,56 +66,39 @@ module _ (c : Core) (w : Editable c) where
     new_long : length (bytes_of (Some h) ps None) ≡ c.end - c.header + (10 + length h.map_info)
     new_long = omega (arith, end_long, front_long 0 h ps)
 
-    pub head_refused : (f : Refusal) → Err f ≡ asked (mapping h.cs h.map_type h.map_info) → Err f ≡ asking (head h) c
-    head_refused f r = sym (rw (refused (mapping h.cs h.map_type h.map_info) (λ _. tt) f r))
+    -- what a head is refused for, by the draft's numbers
+    abbrev pub heading : Answer (Unit {0})
+    heading =
+        and_then (asked (mapping h.cs h.map_type h.map_info)) (λ _.
+        check (leb (10 + length h.map_info) (c.counted - (c.end - c.header))) NoRoom (Ok tt))
 
-    module _ (o : ◌≡◌ {A = Answer (Unit {0})} (Ok tt) (asked (mapping h.cs h.map_type h.map_info))) where
-      is : mapping h.cs h.map_type h.map_info ≡ Ok (found (mapping h.cs h.map_type h.map_info) (λ _. tt) tt o).0
-      is = (found (mapping h.cs h.map_type h.map_info) (λ _. tt) tt o).1
-
-      pub head_cramped : c.counted - (c.end - c.header) < 10 + length h.map_info → Err NoRoom ≡ asking (head h) c
-      head_cramped r =
-          let t : leb (length (bytes_of (Some h) ps None)) c.counted ≡ false = lt-leb _ _ (omega (arith, new_long, end_counted c w)) in
-          sym (rw (is, t))
-
-      pub head_accepted : 10 + length h.map_info ≤ c.counted - (c.end - c.header) → ◌≡◌ {A = Answer (Unit {0})} (Ok tt) (asking (head h) c)
-      head_accepted r =
-          let t : leb (length (bytes_of (Some h) ps None)) c.counted ≡ true = le-leb _ _ (omega (arith, new_long, end_counted c w, header_within)) in
-          sym (rw (is, t))
+    pub head_told : {r : Answer (Unit {0})} → r ≡ heading → r ≡ asking (head h) c
+    head_told told =
+        let room : leb (10 + length h.map_info) (c.counted - (c.end - c.header)) ≡ leb (length (bytes_of (Some h) ps None)) c.counted =
+        room_for (c.end - c.header) c.counted (length h.map_info) ∙ ap (λ n. leb n c.counted) (sym new_long) in
+        told ∙ ap (λ a. and_then (asked (mapping h.cs h.map_type h.map_info)) (λ _. check {A = Unit {0}} a NoRoom (Ok tt))) room
+        ∙ mapped_asked (mapping h.cs h.map_type h.map_info) (leb (length (bytes_of (Some h) ps None)) c.counted) (record { header = Some h; payloads = ps })
 
     -- a head that is accepted
     module _ (a : Accepted (head h) c) where
       abbrev held : Held
       held = record { header = Some h; payloads = ps }
 
+      accepted : (leb (length (bytes_of (Some h) ps None)) c.counted ≡ true) × (editing c.counted d (head h) ≡ Ok held)
+      accepted =
+          let r = found (editing c.counted d (head h)) (λ _. tt) tt a in
+          let b = and_then_ok (mapping h.cs h.map_type h.map_info) _ r.0 r.1 in
+          let k = check_ok (leb (length (bytes_of (Some h) ps None)) c.counted) _ _ r.0 b.2 in
+          (k.0, r.1 ∙ ap Ok (sym (same_ok held r.0 k.1)))
+
       pub head_room : c.end - c.header + (10 + length h.map_info) ≤ c.counted
-      head_room =
-          let r = found (editing c.counted d (head h)) (λ _. tt) tt a in
-          let b = and_then_ok (mapping h.cs h.map_type h.map_info) _ r.0 r.1 in
-          let k = check_ok (leb (length (bytes_of (Some h) ps None)) c.counted) _ _ r.0 b.2 in
-          omega (arith, leb-true _ _ k.0, new_long)
+      head_room = omega (arith, leb-true _ _ accepted.0, new_long)
 
-      result : editing c.counted d (head h) ≡ Ok held
-      result =
-          let r = found (editing c.counted d (head h)) (λ _. tt) tt a in
-          let b = and_then_ok (mapping h.cs h.map_type h.map_info) _ r.0 r.1 in
-          let k = check_ok (leb (length (bytes_of (Some h) ps None)) c.counted) _ _ r.0 b.2 in
-          r.1 ∙ ap Ok (sym (same_ok held r.0 k.1))
-
-      pub headed_leaves : (after : Core) (next : ℕ) → next ≡ first_in c → HeaderPut c.end c.header next h c.buffer.now after.buffer.now → EditWidths (head h)
-          → length after.buffer.now ≡ length c.buffer.now → after.counted ≡ c.counted → after.header ≡ 10 + length h.map_info → after.count ≡ c.count
-          → after.end ≡ c.end - c.header + (10 + length h.map_info) → after.full ≡ after.end → after.phase ≡ c.phase → Leaves (head h) c after
-      headed_leaves after next first put y long counted header count end full phase =
-          let last : after.end ≡ length (bytes_of (Some h) ps None) = omega (arith, new_long) in
-          edit_leaves c after (head h) held w.shown y result (record {
-            long = long;
-            counted = counted;
-            header = header;
-            count = count ∙ w.shown.count;
-            end = last;
-            full = full ∙ last;
-            phase = phase ∙ w.open';
-            bytes = put c.counted (open_used c w) head_room
-                ∙ headed_lies c.counted (bytes_of d.header ps None) c.buffer.now (header_part d.header ps) h ps c.header c.end next w.shown.kept.sound.fits (counted_within c w)
-                (open_lies c w) split part_is w.shown.end first;
-          })
+      pub headed_leaves : (bs : List ℕ) (next : ℕ) → next ≡ first_in c → Spliced c.end 0 c.header (header_bytes next h) c.buffer.now bs → EditWidths (head h)
+          → Leaves (head h) c
+          (record c { buffer = record c.buffer { now = bs }; header = 10 + length h.map_info; end = c.end - c.header + (10 + length h.map_info); full = c.end - c.header + (10 + length h.map_info) })
+      headed_leaves bs next first put y =
+          edit_leaves c (head h) held bs (10 + length h.map_info) c.count (c.end - c.header + (10 + length h.map_info)) w y accepted.1 refl w.shown.count (omega (arith, new_long))
+          (put c.counted (open_used c w) (omega (arith, head_room))
+          ∙ headed_lies c.counted (bytes_of d.header ps None) c.buffer.now (header_part d.header ps) h ps c.header c.end next w.shown.kept.sound.fits (counted_within c w)
+          (open_lies c w) split part_is w.shown.end first)

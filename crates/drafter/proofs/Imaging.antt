@@ -1,5 +1,5 @@
 -- The buffer after an edit is the image of the records then held.
-use Rattle.std.proofs.Common.{◌≡◌, ℕ, ◌+◌, ◌-◌, ◌≤◌, List, [], ◌∷◌, ◌++◌, length, get_or, take, drop, set, replicate, None, Ok, sym, refl, ap, ◌∙◌, subst, ap₂, append_assoc, arith, length-append, take_at, drop_at}
+use Rattle.std.proofs.Common.{◌≡◌, ℕ, ◌+◌, ◌-◌, ◌≤◌, List, [], ◌∷◌, ◌++◌, length, get_or, take, drop, set, replicate, None, Ok, sym, refl, ap, ◌∙◌, subst, ap₂, append_assoc, arith, length-append, length-drop, take_at, drop_at}
 use lib.ListN.{length-replicate}
 use Rattle.std.proofs.lemmas.List.{get_or-append_right, get_or_append_left, get_or-replicate, set-append_left}
 use Rattle.wire.specs.Kinds.{code_of}
@@ -13,8 +13,8 @@ use Rattle.plain.proofs.Keeping.{editing_sound, open_kept}
 use Rattle.plain.proofs.Joints.{front_append, payloads_append, naming_of, naming_within, renamed}
 use Rattle.drafter.specs.declared.state.Core.{Core}
 use Rattle.drafter.specs.Buffers.{Used, spliced}
-use Rattle.drafter.specs.Cores.{phase_of, header_size, Shows, plain_of, Shown, Becomes}
-use Rattle.drafter.specs.Edits.{Leaves}
+use Rattle.drafter.specs.Cores.{phase_of, header_size, Shows, plain_of, Becomes}
+use Rattle.drafter.specs.Edits.{Editable, Leaves}
 use Rattle.drafter.proofs.Spotting.{same_front}
 
 -- an encoding in a buffer: zeros behind it up to the counted bytes, and the rest
@@ -145,9 +145,9 @@ headed_lies counted bytes bs before h ps old end next fits within is e size long
     ∙ sym (append_assoc new behind (zeros (length (front 0 h ps)))) ∙ ap (λ x. x ++ zeros (length (front 0 h ps))) (sym whole)
 
 -- the numbers and the bytes of a draft behind another
-pub record Turned (before after : Core) (s : Draft) : Type 0 where
-  pub long : length after.buffer.now ≡ length before.buffer.now
+pub record Rewritten (before after : Core) (s : Draft) : Type 0 where
   pub counted : after.counted ≡ before.counted
+  pub name : after.buffer.ghost_name ≡ before.buffer.ghost_name
   pub header : after.header ≡ header_size s.held.header
   pub count : after.count ≡ length s.held.payloads
   pub end : after.end ≡ length (bytes_of s.held.header s.held.payloads None)
@@ -155,9 +155,11 @@ pub record Turned (before after : Core) (s : Draft) : Type 0 where
   pub phase : after.phase ≡ phase_of s.stage
   pub bytes : after.buffer.now ≡ encoded s ++ (replicate (before.counted - length (encoded s)) 0 ++ drop before.counted before.buffer.now)
 
-pub turned_becomes : (s t : Draft) (before after : Core) → Shows s before → Kept before.counted t → Turned before after t → Becomes t before after
-turned_becomes s t before after w k n =
-    let m : before.counted ≡ counted after.buffer.now = omega (arith, n.counted, w.counted, n.long) in
+pub rewritten_becomes : (s t : Draft) (before after : Core) → Shows s before → Kept before.counted t → Rewritten before after t → Becomes t before after
+rewritten_becomes s t before after w k n =
+    let long : length after.buffer.now ≡ length before.buffer.now =
+    ap length n.bytes ∙ simp (length-append, length-replicate, length-drop) (omega (arith, k.fits, w.counted)) in
+    let m : before.counted ≡ counted after.buffer.now = omega (arith, n.counted, w.counted, long) in
     let l = lies_now before.counted (encoded t) before.buffer.now after.buffer.now k.fits n.bytes in
     record {
       shows = record {
@@ -170,19 +172,32 @@ turned_becomes s t before after w k n =
         phase = n.phase;
         is = subst (λ x. Lies x (encoded t) after.buffer.now) m l.0;
       };
+      name = n.name;
       room = n.counted;
-      long = n.long;
+      long = long;
       rest = l.1;
     }
 
 -- a draft that stays
 pub stays : (s : Draft) (c : Core) → Shows s c → Becomes s c c
-stays s c w = record { shows = w; room = refl; long = refl; rest = refl }
+stays s c w = record { shows = w; name = refl; room = refl; long = refl; rest = refl }
 
--- an edit that is accepted leaves the draft that is due
-pub edit_leaves : (before after : Core) (x : Edit) (e : Held) → Shown before → EditWidths x → editing before.counted (plain_of before).held x ≡ Ok e → Turned before after (record { held = e; stage = opened })
-    → Leaves x before after
-edit_leaves before after x e w y q t =
-    let d : Held = (plain_of before).held in
-    let k = open_kept before.counted e (editing_sound before.counted d e w.kept.sound x y q) in
-    subst (λ r. Becomes (edited d r).draft before after) (sym q) (turned_becomes (plain_of before) (record { held = e; stage = opened }) before after w k t)
+-- an edit that is accepted leaves the draft that is due: other bytes in the same buffer, and the numbers that they have
+pub edit_leaves : (c : Core) (x : Edit) (e : Held) (bs : List ℕ) (header count end : ℕ) → Editable c → EditWidths x → editing c.counted (plain_of c).held x ≡ Ok e
+    → header ≡ header_size e.header → count ≡ length e.payloads → end ≡ length (bytes_of e.header e.payloads None)
+    → bs ≡ bytes_of e.header e.payloads None ++ (replicate (c.counted - length (bytes_of e.header e.payloads None)) 0 ++ drop c.counted c.buffer.now)
+    → Leaves x c (record c { buffer = record c.buffer { now = bs }; header = header; count = count; end = end; full = end })
+edit_leaves c x e bs header count end w y q headed counts ends bytes =
+    let d : Held = (plain_of c).held in
+    let after : Core = record c { buffer = record c.buffer { now = bs }; header = header; count = count; end = end; full = end } in
+    let k = open_kept c.counted e (editing_sound c.counted d e w.shown.kept.sound x y q) in
+    subst (λ r. Becomes (edited d r).draft c after) (sym q) (rewritten_becomes (plain_of c) (record { held = e; stage = opened }) c after w.shown k (record {
+      counted = refl;
+      name = refl;
+      header = headed;
+      count = counts;
+      end = ends;
+      full = ends;
+      phase = w.open';
+      bytes = bytes;
+    }))

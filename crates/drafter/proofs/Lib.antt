@@ -1,6 +1,5 @@
-pub mod Resizing
+pub mod Splicing
 pub mod Spotting
-pub mod Offering
 pub mod Showing
 pub mod Asking
 pub mod Located
@@ -13,6 +12,5 @@ pub mod Standing
 pub mod Admitting
 pub mod Closing
 pub mod Delivering
-pub mod Stable
 pub mod Calling
 pub mod Spanning

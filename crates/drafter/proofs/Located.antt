@@ -2,12 +2,13 @@
 use Rattle.std.proofs.Common.{◌≡◌, ℕ, ◌+◌, ◌<◌, ◌≤◌, List, [], ◌∷◌, length, take, drop, Some, ap, ◌∙◌, ap₂, arith, length-drop, take-append-drop, length-take}
 use Rattle.wire.specs.Messages.{Header, Payload, front}
 use Rattle.plain.specs.Drafts.{standing}
-use Rattle.plain.proofs.Joints.{lengths, lengths_append, front_long}
+use Rattle.plain.proofs.Joints.{lengths, lengths_append, front_long, naming_within}
 use Rattle.drafter.specs.declared.state.Core.{Core}
+use Rattle.drafter.specs.declared.spot.Spot.{Spot}
 use Rattle.drafter.specs.Spots.{spot_at}
 use Rattle.drafter.specs.Cores.{header_size, plain_of, Shown}
 use Rattle.drafter.proofs.Spotting.{spot_behind, spot_there}
-use Rattle.drafter.proofs.Showing.{ending, bare_of, records_are}
+use Rattle.drafter.proofs.Showing.{ending, bare_of, records_are, end_is}
 
 some_long : (ps : List Payload) → 0 < length ps → 0 < lengths ps
 unfolding lengths
@@ -42,6 +43,16 @@ module _ (c : Core) (w : Shown c) (h : Header) (e : (plain_of c).held.header ≡
       let a = front_long 0 h (take i ps) in
       let b = front_long end h ps in
       omega (arith, ap (λ s. s.at) (located i (omega arith)), ap length records, fewer_long ps i (omega (arith, w.count)))
+
+  pub spot_bounds : (i : ℕ) → i ≤ c.count → let s : Spot = spot_at c.header i (take c.end c.buffer.now) in (s.naming < s.at) × (s.at ≤ c.end)
+  spot_bounds i l =
+      let at : (spot_at c.header i (take c.end c.buffer.now)).at ≡ length (front 0 h (take i ps)) = ap (λ s. s.at) (located i l) in
+      let whole = end_is c w h e in
+      let a = front_long 0 h (take i ps) in
+      let b = front_long 0 h ps in
+      let p = lengths_append (take i ps) (drop i ps) in
+      let q = ap lengths (take-append-drop i ps) in
+      (omega (arith, ap (λ s. s.naming) (located i l), naming_within 0 h (take i ps)), omega arith)
 
 pub records_few : (c : Core) → Shown c → length (take c.end c.buffer.now) ≤ 8192
 records_few c w = simp length-take (omega (arith, w.end, w.counted, w.kept.sound.fits))

@@ -1,5 +1,5 @@
 -- The buffer of an open draft.
-use Rattle.std.proofs.Common.{◌≡◌, ℕ, ◌<◌, ◌≤◌, ltb, List, ◌++◌, length, get_or, take, drop, Some, None, Err, sym, ap, ◌∙◌, subst, ap₂, arith, take-append-drop}
+use Rattle.std.proofs.Common.{◌≡◌, ℕ, ◌≤◌, ltb, List, ◌++◌, length, get_or, take, drop, Some, None, Err, sym, ap, ◌∙◌, subst, ap₂, arith, take-append-drop}
 use Rattle.std.proofs.lemmas.List.{get_or_append_left}
 use Rattle.wire.specs.declared.refusal.Refusal.{Refusal}
 use Rattle.wire.specs.Messages.{Header, Payload, first, payloads_bytes, front}
@@ -8,7 +8,7 @@ use Rattle.plain.specs.Drafts.{Held, bytes_of, image}
 use Rattle.plain.specs.Drafts.Stage.{opened}
 use Rattle.plain.specs.Edits.{Edit, editing}
 use Rattle.plain.specs.Steps.{edited}
-use Rattle.plain.proofs.Joints.{lengths, lengths_append, front_append, front_long, naming_of, naming_within, named}
+use Rattle.plain.proofs.Joints.{front_append, naming_of, naming_within, named}
 use Rattle.drafter.specs.declared.state.Core.{Core}
 use Rattle.drafter.specs.declared.spot.Spot.{Spot}
 use Rattle.drafter.specs.Spots.{spot_at}
@@ -16,7 +16,8 @@ use Rattle.drafter.specs.Buffers.{Used}
 use Rattle.drafter.specs.Cores.{Shows, sign_in, stage_in, plain_of, Becomes}
 use Rattle.drafter.specs.Edits.{Editable, asking, Leaves}
 use Rattle.drafter.proofs.Spotting.{spot_behind}
-use Rattle.drafter.proofs.Located.{located}
+use Rattle.drafter.proofs.Showing.{end_is}
+use Rattle.drafter.proofs.Located.{located, spot_bounds}
 use Rattle.drafter.proofs.Imaging.{Lies, lies_used, stays}
 
 module _ (c : Core) (w : Editable c) where
@@ -54,25 +55,10 @@ module _ (c : Core) (w : Editable c) where
     pub front_lies : Lies c.counted (front 0 h ps) bs
     front_lies = subst (λ x. Lies c.counted (bytes_of x ps None) bs) e open_lies
 
-    pub end_is : c.end ≡ length (front 0 h ps)
-    end_is = w.shown.end ∙ ap (λ x. length (bytes_of x ps None)) e
-
     -- the spot of a position
     module _ (i : ℕ) (l : i ≤ c.count) (spot : Spot) (s : spot ≡ spot_at c.header i (take c.end bs)) where
       pub at_spot : spot ≡ spot_behind h (take i ps)
       at_spot = s ∙ located c w.shown h e i l
-
-      pub spot_within : spot.at ≤ c.end
-      spot_within =
-          let a = front_long 0 h (take i ps) in
-          let b = front_long 0 h ps in
-          let p = lengths_append (take i ps) (drop i ps) in
-          let q = ap lengths (take-append-drop i ps) in
-          omega (arith, ap (λ x. x.at) at_spot, end_is)
-
-      pub naming_there : spot.naming < length bs
-      naming_there =
-          omega (arith, ap (λ x. x.naming) at_spot, ap (λ x. x.at) at_spot, naming_within 0 h (take i ps), spot_within, end_counted, counted_within)
 
       -- the byte that names the payload there names what follows those before it
       pub naming_names : get_or bs spot.naming 0 ≡ first 0 (drop i ps)
@@ -81,7 +67,7 @@ module _ (c : Core) (w : Editable c) where
           ap (front 0 h) (sym (take-append-drop i ps)) ∙ front_append 0 h (take i ps) (drop i ps) in
           let n = naming_within (first 0 (drop i ps)) h (take i ps) in
           ap₂ (λ x k. get_or x k 0) front_lies (ap (λ x. x.naming) at_spot)
-          ∙ get_or_append_left (front 0 h ps) _ 0 (naming_of h (take i ps)) (omega (arith, naming_within 0 h (take i ps), ap (λ x. x.at) at_spot, spot_within, end_is))
+          ∙ get_or_append_left (front 0 h ps) _ 0 (naming_of h (take i ps)) (omega (arith, naming_within 0 h (take i ps), ap (λ x. x.at) at_spot, ap (λ x. x.at) s, (spot_bounds c w.shown h e i l).1, end_is c w.shown h e))
           ∙ ap (λ x. get_or x (naming_of h (take i ps)) 0) cut
           ∙ get_or_append_left (front (first 0 (drop i ps)) h (take i ps)) (payloads_bytes 0 (drop i ps)) 0 (naming_of h (take i ps)) n ∙ named (first 0 (drop i ps)) h (take i ps)
 

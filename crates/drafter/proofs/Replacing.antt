@@ -1,55 +1,44 @@
 -- A payload of the buffer that is replaced or removed.
-use Rattle.std.proofs.Common.{◌≡◌, ℕ, ◌+◌, ◌-◌, ◌<◌, ◌≤◌, true, false, ltb, leb, List, [], ◌∷◌, ◌++◌, length, get_or, take, drop, set, replicate, Some, None, Ok, Err, sym, refl, ap, ◌∙◌, subst, ap₂, add-one, arith, length-append, length-set}
+use Rattle.std.proofs.Common.{◌≡◌, ℕ, ◌+◌, ◌-◌, ◌<◌, ◌≤◌, true, ltb, leb, List, [], ◌∷◌, ◌++◌, length, get_or, take, drop, set, replicate, Some, None, Ok, sym, refl, ap, ◌∙◌, subst, ap₂, add-one, arith, length-append, length-set}
 use Rattle.std.specs.List.{remove as removed}
-use Rattle.std.proofs.lemmas.Bool.{leb-true, ltb-true, le-leb, lt-leb, lt-ltb, le-ltb}
+use Rattle.std.proofs.lemmas.Bool.{leb-true, ltb-true}
 use Rattle.std.proofs.lemmas.List.{set_split, get_or_at, get_or_append_left}
 use Rattle.std.proofs.lemmas.List.Edits.{length-remove}
 use Rattle.std.proofs.ByRecursion.{All-get_or}
-use Rattle.wire.specs.declared.refusal.Refusal.{Refusal}
 use Rattle.wire.specs.declared.refusal.Refusal.TheVariants.{NoPosition, NoRoom}
 use Rattle.wire.specs.Octets.{Octets}
 use Rattle.wire.specs.Messages.{Header, Payload, first, payloads_bytes, front}
 use Rattle.wire.specs.Lawful.{LawfulPayload}
 use Rattle.wire.specs.Kinds.{code_of}
-use Rattle.wire.specs.Answers.{Answer}
-use Rattle.wire.proofs.Answers.{check_ok, and_then_ok, same_ok, found, refused}
+use Rattle.wire.specs.Answers.{Answer, check, and_then}
+use Rattle.wire.proofs.Answers.{check_ok, and_then_ok, same_ok, found}
 use Rattle.plain.specs.Drafts.{Held, standing, bytes_of}
 use Rattle.plain.specs.Offers.{asked, offering}
 use Rattle.plain.specs.Edits.{header_of, editing, Is}
 use Rattle.plain.specs.Edits.Edit.{replace, remove}
-use Rattle.plain.proofs.Joints.{lengths, lengths_append, lengths_one, front_append, front_long}
+use Rattle.plain.proofs.Joints.{nothing, lengths, lengths_append, lengths_one, cut_at, lengths_cut, removed_is, lengths_removed, front_append, front_long}
 use Rattle.plain.proofs.Offers.{offered_is}
 use Rattle.plain.proofs.Keeping.{header_found}
 use Rattle.drafter.specs.declared.state.Core.{Core}
 use Rattle.drafter.specs.declared.spot.Spot.{Spot}
 use Rattle.drafter.specs.Spots.{size_at, spot_at}
-use Rattle.drafter.specs.Buffers.{spliced, Placed, TakenOut}
+use Rattle.drafter.specs.Buffers.{spliced, Placed}
 use Rattle.drafter.specs.Cores.{plain_of, Shown}
-use Rattle.drafter.specs.Edits.{Editable, size_in, asking, Accepted, Leaves}
-use Rattle.drafter.proofs.Spotting.{nothing, cut_at, same_front, size_there}
-use Rattle.drafter.proofs.Showing.{ending}
+use Rattle.drafter.specs.Edits.{Editable, size_in, placing, asking, Accepted, Leaves}
+use Rattle.drafter.proofs.Asking.{asking_first, offered_asked, offered, room_left, place_asked}
+use Rattle.drafter.proofs.Spotting.{same_front, size_there}
+use Rattle.drafter.proofs.Showing.{ending, end_is}
 use Rattle.drafter.proofs.Located.{records, located}
 use Rattle.drafter.proofs.Imaging.{Lies, placed_lies, removed_lies, edit_leaves}
-use Rattle.drafter.proofs.Opened.{counted_within, end_counted, open_used, front_lies, end_is, at_spot}
+use Rattle.drafter.proofs.Opened.{counted_within, end_counted, open_used, front_lies, at_spot}
 
--- payloads around the one at a position
-lengths_cut : (ps : List Payload) (i : ℕ) → i < length ps → lengths ps ≡ lengths (take i ps) + (1 + length (get_or ps i nothing).body) + lengths (drop (i + 1) ps)
-lengths_cut ps i h =
-    let q : Payload = get_or ps i nothing in
-    omega (arith, ap lengths (cut_at ps i h), lengths_append (take i ps) (q ∷ drop (i + 1) ps), lengths_append (q ∷ []) (drop (i + 1) ps), lengths_one q)
-
+-- payloads with another at a position
 set_is : (ps : List Payload) (i : ℕ) (p : Payload) → i < length ps → set ps i p ≡ take i ps ++ (p ∷ drop (i + 1) ps)
 set_is ps i p h = set_split ps i p h ∙ ap (λ k. take i ps ++ (p ∷ drop k ps)) (sym (add-one i))
 
 lengths_set : (ps : List Payload) (i : ℕ) (p : Payload) → i < length ps → lengths (set ps i p) ≡ lengths (take i ps) + (1 + length p.body) + lengths (drop (i + 1) ps)
 lengths_set ps i p h =
     omega (arith, ap lengths (set_is ps i p h), lengths_append (take i ps) (p ∷ drop (i + 1) ps), lengths_append (p ∷ []) (drop (i + 1) ps), lengths_one p)
-
-removed_is : (ps : List Payload) (i : ℕ) → removed ps i ≡ take i ps ++ drop (i + 1) ps
-removed_is ps i = ap (λ k. take i ps ++ drop k ps) (sym (add-one i))
-
-lengths_removed : (ps : List Payload) (i : ℕ) → lengths (removed ps i) ≡ lengths (take i ps) + lengths (drop (i + 1) ps)
-lengths_removed ps i = ap lengths (removed_is ps i) ∙ lengths_append (take i ps) (drop (i + 1) ps)
 
 -- the payload at a position of a draft
 module _ (c : Core) (w : Shown c) (h : Header) (e : (plain_of c).held.header ≡ Some h) (i : ℕ) (l : i < c.count) where
@@ -68,61 +57,42 @@ module _ (c : Core) (w : Shown c) (h : Header) (e : (plain_of c).held.header ≡
       let lawful : LawfulPayload q = All-get_or LawfulPayload ps i nothing here w.kept.sound.payloads in
       ap₂ size_at (records c w h e ∙ ap (front end h) (cut_at ps i here)) (located c w h e i (omega arith)) ∙ size_there end h (take i ps) q (drop (i + 1) ps) lawful
 
-  end_was : c.end ≡ length (front 0 h ps)
-  end_was = w.end ∙ ap (λ x. length (bytes_of x ps None)) e
-
-  pub size_within : size_in c i ≤ c.end
-  size_within = omega (arith, size_is, end_was, front_long 0 h ps, lengths_cut ps i here)
-
   -- with another payload in its place
   set_long : (p : Payload) → length (front 0 h (set ps i p)) ≡ c.end - size_in c i + (1 + length p.body)
-  set_long p = omega (arith, size_is, end_was, front_long 0 h ps, front_long 0 h (set ps i p), lengths_cut ps i here, lengths_set ps i p here)
+  set_long p = omega (arith, size_is, end_is c w h e, front_long 0 h ps, front_long 0 h (set ps i p), lengths_cut ps i here, lengths_set ps i p here)
 
   removed_long : length (front 0 h (removed ps i)) ≡ c.end - size_in c i
-  removed_long = omega (arith, size_is, end_was, front_long 0 h ps, front_long 0 h (removed ps i), lengths_cut ps i here, lengths_removed ps i)
+  removed_long = omega (arith, size_is, end_is c w h e, front_long 0 h ps, front_long 0 h (removed ps i), lengths_cut ps i here, lengths_removed ps i)
 
-  there : ltb i (length ps) ≡ true
-  there = lt-ltb _ _ here
+-- what an edit is refused for, by the draft's numbers
+module _ (c : Core) (w : Shown c) (i : ℕ) where
+  abbrev d : Held
+  d = (plain_of c).held
 
-  -- what a replace is refused for
+  place : ltb i c.count ≡ ltb i (length d.payloads)
+  place = ap (ltb i) w.count
+
+  pub remove_asked : placing i c.count c ≡ asking (remove i) c
+  remove_asked = ap (λ a. and_then (header_of d.header) (λ _. check {A = Unit {0}} a NoPosition (Ok tt))) place ∙ place_asked d.header (ltb i (length d.payloads)) _
+
   module _ (code : ℕ) (body : List ℕ) where
-    abbrev Replace : Answer (Unit {0})
-    Replace = asking (replace i code body) c
+    abbrev pub replacing : Answer (Unit {0})
+    replacing =
+        and_then (placing i c.count c) (λ _.
+        and_then (asked (offering code body)) (λ _.
+        check (ltb (length body) (c.counted - (c.end - size_in c i))) NoRoom (Ok tt)))
 
-    pub replace_refused : (f : Refusal) → Err f ≡ asked (offering code body) → Err f ≡ Replace
-    replace_refused f r = sym (rw (e, there, refused (offering code body) (λ _. tt) f r))
+    set_there : (h : Header) (p : Payload) → d.header ≡ Some h → ltb i (length d.payloads) ≡ true → offering code body ≡ Ok p
+        → length (bytes_of d.header (set d.payloads i p) None) ≡ c.end - size_in c i + (1 + length body)
+    set_there h p e l q =
+        ap (λ o. length (bytes_of o (set d.payloads i p) None)) e ∙ set_long c w h e i (omega (arith, ltb-true _ _ l, w.count)) p ∙ ap (λ n. c.end - size_in c i + (1 + n)) (ap length (offered_is code body p q).holds)
 
-    module _ (o : ◌≡◌ {A = Answer (Unit {0})} (Ok tt) (asked (offering code body))) where
-      abbrev p : Payload
-      p = (found (offering code body) (λ _. tt) tt o).0
-
-      is : offering code body ≡ Ok p
-      is = (found (offering code body) (λ _. tt) tt o).1
-
-      pub replace_cramped : c.counted - (c.end - size_in c i) ≤ length body → Err NoRoom ≡ Replace
-      replace_cramped r =
-          let t : leb (length (bytes_of (Some h) (set ps i p) None)) c.counted ≡ false =
-          lt-leb _ _ (omega (arith, set_long p, ap length (offered_is code body p is).holds, w.end, w.kept.sound.fits)) in
-          sym (rw (e, there, is, t))
-
-      pub replace_accepted : length body < c.counted - (c.end - size_in c i) → ◌≡◌ {A = Answer (Unit {0})} (Ok tt) Replace
-      replace_accepted r =
-          let t : leb (length (bytes_of (Some h) (set ps i p) None)) c.counted ≡ true = le-leb _ _ (omega (arith, set_long p, ap length (offered_is code body p is).holds)) in
-          sym (rw (e, there, is, t))
-
-  pub remove_accepted : ◌≡◌ {A = Answer (Unit {0})} (Ok tt) (asking (remove i) c)
-  remove_accepted = sym (rw (e, there))
-
--- a position that is not there
-module _ (c : Core) (w : Shown c) (h : Header) (e : (plain_of c).held.header ≡ Some h) (i : ℕ) (l : c.count ≤ i) where
-  absent : ltb i (length (plain_of c).held.payloads) ≡ false
-  absent = le-ltb _ _ (omega (arith, w.count))
-
-  pub replace_elsewhere : (code : ℕ) (body : List ℕ) → Err NoPosition ≡ asking (replace i code body) c
-  replace_elsewhere code body = sym (rw (e, absent))
-
-  pub remove_elsewhere : Err NoPosition ≡ asking (remove i) c
-  remove_elsewhere = sym (rw (e, absent))
+    pub replace_told : {r : Answer (Unit {0})} → r ≡ replacing → r ≡ asking (replace i code body) c
+    replace_told told =
+        told ∙ ap (λ a. asking_first d.header a (offering code body) true (ltb (length body) (c.counted - (c.end - size_in c i)))) place
+        ∙ offered_asked d.header (ltb i (length d.payloads)) (offering code body) true (ltb (length body) (c.counted - (c.end - size_in c i)))
+        (λ p. leb (length (bytes_of d.header (set d.payloads i p) None)) c.counted) (λ p. record { header = d.header; payloads = set d.payloads i p })
+        (λ h p e l q. ap (λ n. leb n c.counted) (set_there h p e l q) ∙ room_left c.counted (c.end - size_in c i) (length body))
 
 -- a replace or a remove that is accepted
 pub record Replacement (c : Core) (i code : ℕ) (body : List ℕ) : Type 0 where
@@ -137,27 +107,16 @@ pub record Replacement (c : Core) (i code : ℕ) (body : List ℕ) : Type 0 wher
 pub replacement : (c : Core) (i code : ℕ) (body : List ℕ) → Shown c → Accepted (replace i code body) c → Replacement c i code body
 replacement c i code body w a =
     let d : Held = (plain_of c).held in
-    let r = found (editing c.counted d (replace i code body)) (λ _. tt) tt a in
-    let e : Held = r.0 in
-    let x = and_then_ok (header_of d.header) _ e r.1 in
-    let has = header_found d.header x.0 x.1 in
-    let b = check_ok (ltb i (length d.payloads)) _ _ e x.2 in
-    let o = and_then_ok (offering code body) _ e b.1 in
-    let p : Payload = o.0 in
-    let q : Held = record { header = d.header; payloads = set d.payloads i p } in
-    let k = check_ok (leb (length (bytes_of d.header (set d.payloads i p) None)) c.counted) _ (Ok q) e o.2 in
-    let is = offered_is code body p o.1 in
-    let there : i < c.count = omega (arith, ltb-true _ _ b.0, w.count) in
-    let long : length (bytes_of d.header (set d.payloads i p) None) ≡ length (front 0 x.0 (set d.payloads i p)) =
-    ap (λ z. length (bytes_of z (set d.payloads i p) None)) has in
+    let n = offered d.header (ltb i (length d.payloads)) (offering code body) true (λ p. leb (length (bytes_of d.header (set d.payloads i p) None)) c.counted)
+    (λ p. record { header = d.header; payloads = set d.payloads i p }) a in
     record {
-      header = x.0;
-      payload = p;
-      has = has;
-      there = there;
-      is = is;
-      room = omega (arith, leb-true _ _ k.0, long, set_long c w x.0 has i there p, ap length is.holds);
-      result = r.1 ∙ ap Ok (sym (same_ok q e k.1));
+      header = n.header;
+      payload = n.payload;
+      has = n.has;
+      there = omega (arith, ltb-true _ _ n.there, w.count);
+      is = offered_is code body n.payload n.is;
+      room = omega (arith, leb-true _ _ n.room, set_there c w i code body n.header n.payload n.has n.there n.is);
+      result = n.result;
     }
 
 pub record Removal (c : Core) (i : ℕ) : Type 0 where
@@ -205,7 +164,7 @@ module _ (c : Core) (w : Editable c) (h : Header) (has : (plain_of c).held.heade
   spot_room =
       let n = size_is c w.shown h has i l in (
         omega arith,
-        omega (arith, at_is, end_is c w h has, front_long 0 h before, front_long 0 h all, lengths_cut all i (omega (arith, w.shown.count))),
+        omega (arith, at_is, end_is c w.shown h has, front_long 0 h before, front_long 0 h all, lengths_cut all i (omega (arith, w.shown.count))),
       )
 
   -- its first byte names what follows it
@@ -228,15 +187,15 @@ module _ (c : Core) (w : Editable c) (h : Header) (has : (plain_of c).held.heade
   lies = subst (λ x. Lies c.counted x c.buffer.now) (sym same) (front_lies c w h has)
 
   whole : c.end ≡ length (front 0 h (before ++ ((one ∷ []) ++ behind)))
-  whole = end_is c w h has ∙ ap length (sym same)
+  whole = end_is c w.shown h has ∙ ap length (sym same)
 
   fits : length (front 0 h (before ++ ((one ∷ []) ++ behind))) ≤ c.counted
   fits = omega (arith, whole, end_counted c w)
 
   -- the buffer with other payloads
-  module _ (after : Core) (held : Held) (header : held.header ≡ (plain_of c).held.header) (new : List Payload) (payloads : held.payloads ≡ new) where
-    bytes_as : after.buffer.now ≡ front 0 h new ++ (replicate (c.counted - length (front 0 h new)) 0 ++ drop c.counted c.buffer.now)
-        → after.buffer.now ≡ bytes_of held.header held.payloads None
+  module _ (bs : List ℕ) (held : Held) (header : held.header ≡ (plain_of c).held.header) (new : List Payload) (payloads : held.payloads ≡ new) where
+    bytes_as : bs ≡ front 0 h new ++ (replicate (c.counted - length (front 0 h new)) 0 ++ drop c.counted c.buffer.now)
+        → bs ≡ bytes_of held.header held.payloads None
         ++ (replicate (c.counted - length (bytes_of held.header held.payloads None)) 0 ++ drop c.counted c.buffer.now)
     bytes_as e =
         e ∙ ap₂ (λ o ps. bytes_of o ps None ++ (replicate (c.counted - length (bytes_of o ps None)) 0 ++ drop c.counted c.buffer.now)) (sym (header ∙ has)) (sym payloads)
@@ -244,12 +203,12 @@ module _ (c : Core) (w : Editable c) (h : Header) (has : (plain_of c).held.heade
     long_as : length (bytes_of held.header held.payloads None) ≡ length (front 0 h new)
     long_as = ap₂ (λ o ps. length (bytes_of o ps None)) (header ∙ has) payloads
 
-module _ (c after : Core) (i code : ℕ) (body : List ℕ) (w : Editable c) (n : Replacement c i code body) (spot : Spot) (s : spot ≡ spot_at c.header i (take c.end c.buffer.now))
+module _ (c : Core) (i code : ℕ) (body : List ℕ) (w : Editable c) (n : Replacement c i code body) (spot : Spot) (s : spot ≡ spot_at c.header i (take c.end c.buffer.now))
     (old next : ℕ) (size : old ≡ size_in c i) (names : next ≡ first 0 (drop (i + 1) (plain_of c).held.payloads))
-    (placed : Placed c.end spot old next code body c.buffer.now after.buffer.now) where
-  pub changed_leaves : Octets body → length after.buffer.now ≡ length c.buffer.now → after.counted ≡ c.counted → after.header ≡ c.header → after.count ≡ c.count
-      → after.end ≡ c.end - old + 1 + length body → after.full ≡ after.end → after.phase ≡ c.phase → Leaves (replace i code body) c after
-  changed_leaves y long counted header count end full phase =
+    (bs : List ℕ) (placed : Placed c.end spot old (next ∷ body) code c.buffer.now bs) where
+  pub changed_leaves : Octets body
+      → Leaves (replace i code body) c (record c { buffer = record c.buffer { now = bs }; end = c.end - old + 1 + length body; full = c.end - old + 1 + length body })
+  changed_leaves y =
       let h : Header = n.header in
       let d : Held = (plain_of c).held in
       let ps : List Payload = d.payloads in
@@ -264,31 +223,22 @@ module _ (c after : Core) (i code : ℕ) (body : List ℕ) (w : Editable c) (n :
       ∙ placed_lies c.counted h (take i ps) (get_or ps i nothing ∷ []) (drop (i + 1) ps) c.buffer.now old c.end
       (fits c w h n.has i n.there spot s) (counted_within c w) (lies c w h n.has i n.there spot s) (gone_long c w h n.has i n.there spot s ∙ sym size)
       (whole c w h n.has i n.there spot s) p next code body names n.is.named n.is.holds in
-      let last : after.end ≡ length (bytes_of d.header (set ps i p) None) =
+      let last : c.end - old + 1 + length body ≡ length (bytes_of d.header (set ps i p) None) =
       omega (
         arith,
-        long_as c w h n.has i n.there spot s after held refl new is,
+        long_as c w h n.has i n.there spot s bs held refl new is,
         ap (λ x. length (front 0 h x)) is,
         set_long c w.shown h n.has i n.there p,
         ap length n.is.holds,
       ) in
-      edit_leaves c after (replace i code body) held w.shown y n.result (record {
-        long = long;
-        counted = counted;
-        header = header ∙ w.shown.header;
-        count = omega (arith, w.shown.count, length-set ps i p);
-        end = last;
-        full = full ∙ last;
-        phase = phase ∙ w.open';
-        bytes = bytes_as c w h n.has i n.there spot s after held refl new is bytes;
-      })
+      edit_leaves c (replace i code body) held bs c.header c.count (c.end - old + 1 + length body) w y n.result w.shown.header
+      (omega (arith, w.shown.count, length-set ps i p)) last (bytes_as c w h n.has i n.there spot s bs held refl new is bytes)
 
-module _ (c after : Core) (i : ℕ) (w : Editable c) (n : Removal c i) (spot : Spot) (s : spot ≡ spot_at c.header i (take c.end c.buffer.now))
+module _ (c : Core) (i : ℕ) (w : Editable c) (n : Removal c i) (spot : Spot) (s : spot ≡ spot_at c.header i (take c.end c.buffer.now))
     (old next : ℕ) (size : old ≡ size_in c i) (names : next ≡ first 0 (drop (i + 1) (plain_of c).held.payloads))
-    (gone : TakenOut c.end spot old next c.buffer.now after.buffer.now) where
-  pub deleted_leaves : length after.buffer.now ≡ length c.buffer.now → after.counted ≡ c.counted → after.header ≡ c.header → after.count ≡ c.count - 1
-      → after.end ≡ c.end - old → after.full ≡ after.end → after.phase ≡ c.phase → Leaves (remove i) c after
-  deleted_leaves long counted header count end full phase =
+    (bs : List ℕ) (gone : Placed c.end spot old [] next c.buffer.now bs) where
+  pub deleted_leaves : Leaves (remove i) c (record c { buffer = record c.buffer { now = bs }; count = c.count - 1; end = c.end - old; full = c.end - old })
+  deleted_leaves =
       let h : Header = n.header in
       let d : Held = (plain_of c).held in
       let ps : List Payload = d.payloads in
@@ -297,20 +247,12 @@ module _ (c after : Core) (i : ℕ) (w : Editable c) (n : Removal c i) (spot : S
       let held : Held = record { header = d.header; payloads = removed ps i } in
       let is : removed ps i ≡ new = removed_is ps i in
       let bytes =
-      gone c.counted (open_used c w)
+      gone c.counted (open_used c w) (omega (arith, end_counted c w))
       ∙ ap (λ x. set (spliced c.counted c.end x.at old [] c.buffer.now) x.naming next) (at_spot c w h n.has i (omega (arith, n.there)) spot s)
       ∙ removed_lies c.counted h (take i ps) (get_or ps i nothing ∷ []) (drop (i + 1) ps) c.buffer.now old c.end
       (fits c w h n.has i n.there spot s) (counted_within c w) (lies c w h n.has i n.there spot s) (gone_long c w h n.has i n.there spot s ∙ sym size)
       (whole c w h n.has i n.there spot s) next names in
-      let last : after.end ≡ length (bytes_of d.header (removed ps i) None) =
-      omega (arith, long_as c w h n.has i n.there spot s after held refl new is, ap (λ x. length (front 0 h x)) is, removed_long c w.shown h n.has i n.there) in
-      edit_leaves c after (remove i) held w.shown tt n.result (record {
-        long = long;
-        counted = counted;
-        header = header ∙ w.shown.header;
-        count = omega (arith, w.shown.count, length-remove ps i there);
-        end = last;
-        full = full ∙ last;
-        phase = phase ∙ w.open';
-        bytes = bytes_as c w h n.has i n.there spot s after held refl new is bytes;
-      })
+      let last : c.end - old ≡ length (bytes_of d.header (removed ps i) None) =
+      omega (arith, long_as c w h n.has i n.there spot s bs held refl new is, ap (λ x. length (front 0 h x)) is, removed_long c w.shown h n.has i n.there) in
+      edit_leaves c (remove i) held bs c.header (c.count - 1) (c.end - old) w tt n.result w.shown.header
+      (omega (arith, w.shown.count, length-remove ps i there)) last (bytes_as c w h n.has i n.there spot s bs held refl new is bytes)

@@ -145,5 +145,9 @@ module _ (s : Draft) (c : Core) (w : Shows s c) where
       let stage : (plain_of c).stage ≡ s.stage = ap (λ x. stage_in x (sign_in c.end c.full bs) (ltb c.end c.full)) w.phase ∙ stage_there s.stage refl in
       ap₂ (λ (x : Held) y. record { held = x; stage = y }) (ap₂ (λ a b. record { header = a; payloads = b }) h.0 h.1) stage
 
+-- behind a header, the records end with the front
+pub end_is : (c : Core) → Shown c → (h : Header) → (plain_of c).held.header ≡ Some h → c.end ≡ length (front 0 h (plain_of c).held.payloads)
+end_is c w h e = w.end ∙ ap (λ x. length (bytes_of x (plain_of c).held.payloads None)) e
+
 pub shown : (s : Draft) (c : Core) → Shows s c → Shown c
 shown s c w = subst (λ x. Shows x c) (sym (plain_is s c w)) w

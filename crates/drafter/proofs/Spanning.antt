@@ -33,9 +33,9 @@ module _ (c : Core) (w : Shown c) where
   pub nothing_spanned : c.end ≡ c.full → [] ≡ spanned (plain_of c)
   nothing_spanned e = no_span (plain_of c).held.header (standing (plain_of c).stage) w.kept.sign (sym w.full ∙ sym e ∙ w.end)
 
-  pub span_there : (c.end ≡ c.full → ⊥) → (n : ℕ) → n ≡ c.end + 2 → take n c.buffer.now ≡ spanned (plain_of c)
-  span_there e n m =
-      ap (take n) w.is ∙ a_span (plain_of c).held.header (standing (plain_of c).stage) _ n w.kept.sign (λ q. e (w.end ∙ sym q ∙ sym w.full)) (omega (arith, w.end))
+  pub span_there : (c.end ≡ c.full → ⊥) → take (c.end + 2) c.buffer.now ≡ spanned (plain_of c)
+  span_there e =
+      ap (take (c.end + 2)) w.is ∙ a_span (plain_of c).held.header (standing (plain_of c).stage) _ (c.end + 2) w.kept.sign (λ q. e (w.end ∙ sym q ∙ sym w.full)) (ap (λ n. n + 2) w.end)
 
   -- SIGN takes two bytes and more
   a_room : (o : Option Header) (g : Option Sign) → SignKept o g → (length (bytes_of o ps g) ≡ length (bytes_of o ps None) → ⊥) → length (bytes_of o ps None) + 2 ≤ length (bytes_of o ps g)

@@ -1,9 +1,8 @@
 -- The spots of a draft's payloads, one after the other.
-use Rattle.std.proofs.Common.{◌≡◌, ℕ, zero, suc, ◌+◌, ◌<◌, ◌≤◌, List, [], ◌∷◌, ◌++◌, length, get_or, take, drop, sym, refl, ap, ◌∙◌, subst, ap₂, append_assoc, add-one, arith, length-append, take-append-drop, take_at, drop_at}
+use Rattle.std.proofs.Common.{◌≡◌, ℕ, zero, suc, ◌+◌, ◌<◌, ◌≤◌, List, [], ◌∷◌, ◌++◌, length, get_or, take, drop, sym, refl, ap, ◌∙◌, subst, ap₂, append_assoc, add-one, arith, length-append, take_at, drop_at}
 use Rattle.std.specs.List.{AllByRecursion}
-use Rattle.std.proofs.lemmas.List.{get_or_append_left, take_more, drop_more}
+use Rattle.std.proofs.lemmas.List.{get_or_append_left, take_more}
 use Rattle.std.proofs.ByRecursion.{All-get_or}
-use Rattle.wire.specs.declared.kind.Kind.TheVariants.{T}
 use Rattle.wire.specs.Kinds.{code_of}
 use Rattle.wire.specs.Messages.{Header, Payload, first, payloads_bytes, front}
 use Rattle.wire.specs.Lawful.{LawfulPayload}
@@ -11,19 +10,9 @@ use Rattle.wire.specs.Extents.{extent}
 use Rattle.wire.proofs.Codes.{kind_code}
 use Rattle.wire.proofs.Extents.{extent_local}
 use Rattle.wire.proofs.Layouts.{body_whole}
-use Rattle.plain.proofs.Joints.{front_append, lengths_append, lengths_one, front_long, naming_of, naming_next, naming_within, named}
+use Rattle.plain.proofs.Joints.{nothing, cut_at, front_append, lengths_append, lengths_one, front_long, naming_of, naming_next, naming_within, named}
 use Rattle.drafter.specs.declared.spot.Spot.{Spot}
 use Rattle.drafter.specs.Spots.{kind_in, size_at, next_spot, spot_at, payload_at, payloads_from}
-
--- the turns of the loop
-pub spot_first : (header : ℕ) (bs : List ℕ) → record { naming = 2; at = header } ≡ spot_at header 0 bs
-unfolding spot_at
-spot_first header bs = refl
-
-pub spot_next : (header i n : ℕ) (bs : List ℕ) (s : Spot) → s ≡ spot_at header i bs → n ≡ size_at bs s → record { naming = s.at; at = s.at + n } ≡ spot_at header (i + 1) bs
-unfolding spot_at
-spot_next header i n bs s e m =
-    ap (λ k. record { naming = s.at; at = s.at + k }) m ∙ ap (next_spot bs) e ∙ ap (λ k. spot_at header k bs) (sym (add-one i))
 
 -- the spot behind payloads
 abbrev pub spot_behind : Header → List Payload → Spot
@@ -85,13 +74,6 @@ payloads_there c h ps (q ∷ qs) l =
     ap₂ ◌∷◌ (payload_there c h ps q qs l.0)
     (ap (λ s. payloads_from (length qs) s whole) (next_there c h ps q qs l.0)
     ∙ subst (λ x. payloads_from (length qs) (spot_behind h (ps ++ (q ∷ []))) x ≡ qs) same (payloads_there c h (ps ++ (q ∷ [])) qs l.1))
-
-abbrev pub nothing : Payload
-nothing = record { kind = T; body = [] }
-
--- the payload at a position, between those before and behind it
-pub cut_at : (ps : List Payload) (i : ℕ) → i < length ps → ps ≡ take i ps ++ (get_or ps i nothing ∷ drop (i + 1) ps)
-cut_at ps i h = sym (take-append-drop i ps) ∙ ap (λ x. take i ps ++ x) (drop_more ps i nothing h)
 
 pub spot_there : (c : ℕ) (h : Header) (ps : List Payload) (i : ℕ) → AllByRecursion LawfulPayload ps → i ≤ length ps
     → spot_at (10 + length h.map_info) i (front c h ps) ≡ spot_behind h (take i ps)

@@ -1,5 +1,5 @@
 -- SIGN that is set in the buffer, written and taken off.
-use Rattle.std.proofs.Common.{◌≡◌, ℕ, ◌+◌, ◌-◌, ◌*◌, ◌<◌, ◌≤◌, ltb, leb, List, ◌++◌, length, take, drop, set, replicate, Some, None, Option, sym, ap, ◌∙◌, subst, ap₂, append_assoc, arith, length-append, take_at, drop_at}
+use Rattle.std.proofs.Common.{◌≡◌, ℕ, ◌+◌, ◌-◌, ◌*◌, ◌<◌, ◌≤◌, ltb, leb, List, ◌++◌, length, take, drop, set, replicate, Some, None, Option, sym, refl, ap, ◌∙◌, subst, ap₂, append_assoc, arith, length-append, take_at, drop_at}
 use lib.ListN.{length-replicate}
 use Rattle.std.proofs.lemmas.Bool.{le-leb, and_from}
 use Rattle.std.proofs.lemmas.List.{take_all, drop-drop, set-append_left, replicate-append-replicate}
@@ -13,6 +13,7 @@ use Rattle.plain.specs.Kept.{SignKept, Kept}
 use Rattle.plain.proofs.Joints.{naming_of, naming_within, renamed}
 use Rattle.plain.proofs.Keeping.{unsigned_lawful, open_kept}
 use Rattle.drafter.specs.declared.state.Core.{Core}
+use Rattle.drafter.specs.declared.state.Phase.{Phase}
 use Rattle.drafter.specs.declared.state.Phase.TheVariants as phase
 use Rattle.drafter.specs.declared.spot.Spot.{Spot}
 use Rattle.drafter.specs.Spots.{spot_at}
@@ -20,9 +21,10 @@ use Rattle.drafter.specs.Buffers.{laid}
 use Rattle.drafter.specs.Cores.{phase_of, header_size, sign_in, stage_in, plain_of, Shown}
 use Rattle.drafter.specs.Signs.{Signed, At}
 use Rattle.drafter.proofs.Spotting.{same_front}
+use Rattle.drafter.proofs.Showing.{end_is}
 use Rattle.drafter.proofs.Asking.{with_header}
 use Rattle.drafter.proofs.Located.{located}
-use Rattle.drafter.proofs.Imaging.{Lies, turned_becomes}
+use Rattle.drafter.proofs.Imaging.{Lies, rewritten_becomes}
 
 -- bytes over zeros
 zeros_over : (m k : ℕ) (past : List ℕ) → m ≤ k → drop m (replicate k 0 ++ past) ≡ replicate (k - m) 0 ++ past
@@ -51,7 +53,7 @@ last_naming c w h e spot s =
 pub encode_long : (h : Header) (ps : List Payload) (g : Sign) → length (encode (signed_as h ps g)) ≡ length (front 0 h ps) + (2 + length g.signature)
 encode_long h ps g = omega (arith, length-append (front 4 h ps) (sign_body g.type g.signature), same_front 4 0 h ps)
 
-module _ (c after : Core) (w : Shown c) (spot : Spot) (s : spot ≡ spot_at c.header c.count (take c.end c.buffer.now)) (has : 0 < c.header) where
+module _ (c : Core) (w : Shown c) (spot : Spot) (s : spot ≡ spot_at c.header c.count (take c.end c.buffer.now)) (has : 0 < c.header) where
   abbrev h : Header
   h = (with_header c w has).0
 
@@ -61,29 +63,23 @@ module _ (c after : Core) (w : Shown c) (spot : Spot) (s : spot ≡ spot_at c.he
   abbrev ps : List Payload
   ps = (plain_of c).held.payloads
 
-  pub end_was : c.end ≡ length (front 0 h ps)
-  end_was = w.end ∙ ap (λ x. length (bytes_of x ps None)) some
-
   naming : spot.naming ≡ naming_of h ps
   naming = last_naming c w h some spot s
 
-  pub naming_before : spot.naming < c.end
-  naming_before = omega (arith, naming, naming_within 0 h ps, end_was)
-
-  -- the same records at another stage
-  at_stage : (g : Stage) → Kept c.counted (record { held = (plain_of c).held; stage = g }) → length after.buffer.now ≡ length c.buffer.now → after.counted ≡ c.counted
-      → after.header ≡ c.header → after.count ≡ c.count → after.end ≡ c.end → after.full ≡ length (bytes_of (Some h) ps (standing g)) → after.phase ≡ phase_of g
-      → after.buffer.now ≡ bytes_of (Some h) ps (standing g) ++ (replicate (c.counted - length (bytes_of (Some h) ps (standing g))) 0 ++ drop c.counted c.buffer.now)
-      → At g c after
-  at_stage g k long counted header count end full phase bytes =
-      turned_becomes (plain_of c) (record { held = (plain_of c).held; stage = g }) c after w k (record {
-        long = long;
-        counted = counted;
-        header = header ∙ w.header;
-        count = count ∙ w.count;
-        end = end ∙ w.end;
-        full = full ∙ ap (λ x. length (bytes_of x ps (standing g))) (sym some);
-        phase = phase;
+  -- the same records at another stage: the end of SIGN and the phase change, and the bytes of the buffer
+  at_stage : (g : Stage) (bs : List ℕ) (full : ℕ) (phase : Phase) → Kept c.counted (record { held = (plain_of c).held; stage = g })
+      → full ≡ length (bytes_of (Some h) ps (standing g)) → phase ≡ phase_of g
+      → bs ≡ bytes_of (Some h) ps (standing g) ++ (replicate (c.counted - length (bytes_of (Some h) ps (standing g))) 0 ++ drop c.counted c.buffer.now)
+      → At g c (record c { buffer = record c.buffer { now = bs }; full = full; phase = phase })
+  at_stage g bs full phase k ends out bytes =
+      rewritten_becomes (plain_of c) (record { held = (plain_of c).held; stage = g }) c (record c { buffer = record c.buffer { now = bs }; full = full; phase = phase }) w k (record {
+        counted = refl;
+        name = refl;
+        header = w.header;
+        count = w.count;
+        end = w.end;
+        full = ends ∙ ap (λ x. length (bytes_of x ps (standing g))) (sym some);
+        phase = out;
         bytes = bytes ∙ ap (λ x. bytes_of x ps (standing g) ++ (replicate (c.counted - length (bytes_of x ps (standing g))) 0 ++ drop c.counted c.buffer.now)) (sym some);
       })
 
@@ -92,7 +88,7 @@ module _ (c after : Core) (w : Shown c) (spot : Spot) (s : spot ≡ spot_at c.he
   signing_kept g l lawful room = record {
     sound = w.kept.sound;
     sign = subst (λ x. SignKept x (Some g)) (sym some) lawful;
-    fits = subst (λ x. length (bytes_of x ps (Some g)) ≤ c.counted) (sym some) (omega (arith, encode_long h ps g, end_was));
+    fits = subst (λ x. length (bytes_of x ps (Some g)) ≤ c.counted) (sym some) (omega (arith, encode_long h ps g, end_is c w h some));
   }
 
   module _ (type n : ℕ) (small : type < 16) (least : 0 < n) (most : n < 4096) (room : c.end + (2 + n) ≤ c.counted) (lies : Lies c.counted (front 0 h ps) c.buffer.now) where
@@ -109,21 +105,20 @@ module _ (c after : Core) (w : Shown c) (spot : Spot) (s : spot ≡ spot_at c.he
         let two : List ℕ = in_bytes 2 (type * 4096 + n) in
         let left : ℕ = c.counted - length (encode (signed_as h ps (unsigned type n))) in
         let rest : drop 2 (replicate k 0 ++ past) ≡ z ++ (replicate left 0 ++ past) =
-        zeros_over 2 k past (omega (arith, end_was))
-        ∙ ap (λ m. replicate m 0 ++ past) (omega (arith, encode_long h ps (unsigned type n), zeros_long, end_was))
+        zeros_over 2 k past (omega (arith, end_is c w h some))
+        ∙ ap (λ m. replicate m 0 ++ past) (omega (arith, encode_long h ps (unsigned type n), zeros_long, end_is c w h some))
         ∙ ap (λ x. x ++ past) (sym (replicate-append-replicate n left 0)) ∙ append_assoc z (replicate left 0) past in
         let body : two ++ (z ++ (replicate left 0 ++ past)) ≡ sign_body type z ++ (replicate left 0 ++ past) =
         ap (λ m. in_bytes 2 (type * 4096 + m) ++ (z ++ (replicate left 0 ++ past))) (sym zeros_long) ∙ sym (append_assoc (sign_length type z) z (replicate left 0 ++ past)) in
-        ap (λ x. set (laid c.end two c.buffer.now) x 4) naming ∙ laid_behind 0 4 c.end h ps two (replicate k 0 ++ past) c.buffer.now lies end_was
+        ap (λ x. set (laid c.end two c.buffer.now) x 4) naming ∙ laid_behind 0 4 c.end h ps two (replicate k 0 ++ past) c.buffer.now lies (end_is c w h some)
         ∙ ap (λ x. front 4 h ps ++ (two ++ x)) rest ∙ ap (λ x. front 4 h ps ++ x) body ∙ sym (append_assoc (front 4 h ps) (sign_body type z) (replicate left 0 ++ past))
 
-    pub stand_at : after.buffer.now ≡ set (laid c.end (in_bytes 2 (type * 4096 + n)) c.buffer.now) spot.naming 4 → length after.buffer.now ≡ length c.buffer.now
-        → after.counted ≡ c.counted → after.header ≡ c.header → after.count ≡ c.count → after.end ≡ c.end → after.full ≡ c.end + 2 + n → after.phase ≡ phase.Signing 0
-        → At (signing (unsigned type n) 0) c after
-    stand_at bytes long counted header count end full phase =
+    pub stand_at : (bs : List ℕ) → bs ≡ set (laid c.end (in_bytes 2 (type * 4096 + n)) c.buffer.now) spot.naming 4
+        → At (signing (unsigned type n) 0) c (record c { buffer = record c.buffer { now = bs }; full = c.end + 2 + n; phase = phase.Signing 0 })
+    stand_at bs bytes =
         let numbers = and_from (leb type 15) _ (le-leb _ _ (omega arith)) (and_from (leb 1 n) (leb n 4095) (le-leb _ _ (omega arith)) (le-leb _ _ (omega arith))) in
-        at_stage (signing (unsigned type n) 0) (signing_kept (unsigned type n) 0 (unsigned_lawful type n numbers) (omega (arith, zeros_long)))
-        long counted header count end (omega (arith, encode_long h ps (unsigned type n), zeros_long, end_was)) phase (bytes ∙ stood)
+        at_stage (signing (unsigned type n) 0) bs (c.end + 2 + n) (phase.Signing 0) (signing_kept (unsigned type n) 0 (unsigned_lawful type n numbers) (omega (arith, zeros_long)))
+        (omega (arith, encode_long h ps (unsigned type n), zeros_long, end_is c w h some)) refl (bytes ∙ stood)
 
 -- a draft where SIGN stands
 module _ (c : Core) (w : Signed c) where
@@ -160,7 +155,7 @@ module _ (c : Core) (w : Signed c) where
   signed_full = w.shown.full ∙ ap₂ (λ o x. length (bytes_of o records (standing x))) signed_some signed_stage
 
   pub signed_long : c.full ≡ c.end + (2 + length g.signature)
-  signed_long = omega (arith, signed_full, encode_long signed_head records g, w.shown.end ∙ ap (λ x. length (bytes_of x records None)) signed_some)
+  signed_long = omega (arith, signed_full, encode_long signed_head records g, end_is c w.shown signed_head signed_some)
 
   pub full_counted : c.full ≤ c.counted
   full_counted = omega (arith, w.shown.full, w.shown.kept.fits)
@@ -176,7 +171,7 @@ module _ (c : Core) (w : Signed c) where
   full_within = omega (arith, full_counted, w.shown.counted)
 
   -- SIGN is taken off
-  module _ (after : Core) (spot : Spot) (s : spot ≡ spot_at c.header c.count (take c.end c.buffer.now)) where
+  module _ (spot : Spot) (s : spot ≡ spot_at c.header c.count (take c.end c.buffer.now)) where
     fallen : set (laid c.end (replicate (c.full - c.end) 0) c.buffer.now) spot.naming 0
         ≡ front 0 signed_head records ++ (replicate (c.counted - length (front 0 signed_head records)) 0 ++ drop c.counted c.buffer.now)
     fallen =
@@ -187,19 +182,18 @@ module _ (c : Core) (w : Signed c) where
         let rest : List ℕ = replicate (c.counted - m) 0 ++ past in
         let split : c.buffer.now ≡ front 4 signed_head records ++ (body ++ rest) = signed_lies ∙ append_assoc (front 4 signed_head records) body rest in
         let end : c.end ≡ length (front 4 signed_head records) =
-        w.shown.end ∙ ap (λ x. length (bytes_of x records None)) signed_some ∙ same_front 0 4 signed_head records in
+        end_is c w.shown signed_head signed_some ∙ same_front 0 4 signed_head records in
         let n : length {A = ℕ} (replicate (c.full - c.end) 0) ≡ c.full - c.end = length-replicate (c.full - c.end) 0 in
         let behind : drop (length zeros) (body ++ rest) ≡ rest = drop_at body rest (length zeros) (omega (arith, n, signed_long)) in
         let joined : zeros ++ rest ≡ replicate (c.counted - length (front 0 signed_head records)) 0 ++ past =
         sym (append_assoc zeros (replicate (c.counted - m) 0) past) ∙ ap (λ x. x ++ past) (replicate-append-replicate (c.full - c.end) (c.counted - m) 0)
         ∙ ap (λ x. replicate x 0 ++ past) (omega (arith, signed_full, full_counted, end, same_front 4 0 signed_head records, signed_long)) in
-        ap (λ x. set (laid c.end zeros c.buffer.now) x 0) (naming c after w.shown spot s signed_header)
+        ap (λ x. set (laid c.end zeros c.buffer.now) x 0) (naming c w.shown spot s signed_header)
         ∙ laid_behind 4 0 c.end signed_head records zeros (body ++ rest) c.buffer.now split end
         ∙ ap (λ x. front 0 signed_head records ++ (zeros ++ x)) behind ∙ ap (λ x. front 0 signed_head records ++ x) joined
 
-    pub fall_at : after.buffer.now ≡ set (laid c.end (replicate (c.full - c.end) 0) c.buffer.now) spot.naming 0 → length after.buffer.now ≡ length c.buffer.now
-        → after.counted ≡ c.counted → after.header ≡ c.header → after.count ≡ c.count → after.end ≡ c.end → after.full ≡ c.end → after.phase ≡ phase.Open
-        → At opened c after
-    fall_at bytes long counted header count end full phase =
-        at_stage c after w.shown spot s signed_header opened (open_kept c.counted (plain_of c).held w.shown.kept.sound) long counted header count end
-        (full ∙ w.shown.end ∙ ap (λ x. length (bytes_of x records None)) signed_some) phase (bytes ∙ fallen)
+    pub fall_at : (bs : List ℕ) → bs ≡ set (laid c.end (replicate (c.full - c.end) 0) c.buffer.now) spot.naming 0
+        → At opened c (record c { buffer = record c.buffer { now = bs }; full = c.end; phase = phase.Open })
+    fall_at bs bytes =
+        at_stage c w.shown spot s signed_header opened bs c.end phase.Open (open_kept c.counted (plain_of c).held w.shown.kept.sound)
+        (end_is c w.shown signed_head signed_some) refl (bytes ∙ fallen)

@@ -1,6 +1,5 @@
 -- What moves and writes leave in a buffer.
-use Rattle.std.specs.Prelude.{◌≡◌, ℕ, ◌+◌, ◌-◌, ◌<◌, ◌≤◌, List, [], ◌∷◌, ◌++◌, length, take, drop, replicate, slice_index, slice_set}
-use Rattle.wire.specs.Messages.{Header, header_bytes}
+use Rattle.std.specs.Prelude.{◌≡◌, ℕ, ◌+◌, ◌-◌, ◌<◌, ◌≤◌, List, ◌++◌, length, take, drop, replicate, slice_index, slice_set, max}
 use Rattle.drafter.specs.declared.spot.Spot.{Spot}
 
 -- `end` bytes are in use; behind them the counted ones are zeros
@@ -13,26 +12,20 @@ pub record Used (counted end : ℕ) (bs : List ℕ) : Type 0 where
 abbrev pub spliced : ℕ → ℕ → ℕ → ℕ → List ℕ → List ℕ → List ℕ
 spliced counted end at old new bs = take at bs ++ (new ++ (drop (at + old) (take end bs) ++ (replicate (counted - (end - old + length new)) 0 ++ drop counted bs)))
 
--- the `old` bytes at `at` give way to so many others, whatever they are
-abbrev pub Resized : ℕ → ℕ → ℕ → ℕ → List ℕ → List ℕ → Type 0
-Resized end at old new before after =
-    (counted : ℕ) → Used counted end before → end - old + new ≤ counted → after ≡ spliced counted end at old (take new (drop at after)) before
+-- what stands in a tail behind its first `new` bytes, once these are in the place of `old` ones: the bytes up to `used`, zeros if they
+-- are fewer now, and the rest
+abbrev pub resized : ℕ → ℕ → ℕ → List ℕ → List ℕ
+resized used old new bs = drop old (take used bs) ++ (replicate (old - new) 0 ++ drop (max used (used - old + new)) bs)
 
--- a payload in the place of the `old` bytes at a spot, and its code where it is named
-abbrev pub Placed : ℕ → Spot → ℕ → ℕ → ℕ → List ℕ → List ℕ → List ℕ → Type 0
-Placed end spot old next code body before after =
-    (counted : ℕ) → Used counted end before → end - old + (1 + length body) ≤ counted
-    → after ≡ slice_set (spliced counted end spot.at old (next ∷ body) before) spot.naming code
+-- bytes are in the place of the `old` ones at `at`
+abbrev pub Spliced : ℕ → ℕ → ℕ → List ℕ → List ℕ → List ℕ → Type 0
+Spliced end at old new before after =
+    (counted : ℕ) → Used counted end before → end - old + length new ≤ counted → after ≡ spliced counted end at old new before
 
--- the `old` bytes at a spot are gone, and what follows them is named in their place
-abbrev pub TakenOut : ℕ → Spot → ℕ → ℕ → List ℕ → List ℕ → Type 0
-TakenOut end spot old next before after =
-    (counted : ℕ) → Used counted end before → after ≡ slice_set (spliced counted end spot.at old [] before) spot.naming next
-
--- a header in the place of the `old` bytes at the front
-abbrev pub HeaderPut : ℕ → ℕ → ℕ → Header → List ℕ → List ℕ → Type 0
-HeaderPut end old next h before after =
-    (counted : ℕ) → Used counted end before → end - old + (10 + length h.map_info) ≤ counted → after ≡ spliced counted end 0 old (header_bytes next h) before
+-- bytes are in the place of the `old` ones at a spot, and a code where these are named
+abbrev pub Placed : ℕ → Spot → ℕ → List ℕ → ℕ → List ℕ → List ℕ → Type 0
+Placed end spot old new code before after =
+    (counted : ℕ) → Used counted end before → end - old + length new ≤ counted → after ≡ slice_set (spliced counted end spot.at old new before) spot.naming code
 
 -- bytes written over those from `at` on
 abbrev pub laid : ℕ → List ℕ → List ℕ → List ℕ

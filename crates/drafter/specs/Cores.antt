@@ -58,9 +58,10 @@ plain_of c =
 abbrev pub Shown : Core → Type 0
 Shown c = Shows (plain_of c) c
 
--- a draft becomes another: the counted bytes are that one's, and the rest is as it was
+-- a draft becomes another in the same buffer: the counted bytes are that one's, and the rest is as it was
 pub record Becomes (s : Draft) (before after : Core) : Type 0 where
   pub shows : Shows s after
+  pub name : after.buffer.ghost_name ≡ before.buffer.ghost_name
   pub room : after.counted ≡ before.counted
   pub long : length after.buffer.now ≡ length before.buffer.now
   pub rest : drop before.counted after.buffer.now ≡ drop before.counted before.buffer.now

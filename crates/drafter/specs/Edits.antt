@@ -1,9 +1,10 @@
 -- What an edit of a draft in its buffer answers and leaves.
-use Rattle.std.specs.Prelude.{◌≡◌, ℕ, List, take, Ok}
+use Rattle.std.specs.Prelude.{◌≡◌, ℕ, ◌+◌, List, take, drop, Ok, nat_lt}
+use Rattle.wire.specs.declared.refusal.Refusal.TheVariants.{NoPosition}
 use Rattle.wire.specs.Messages.{first}
-use Rattle.wire.specs.Answers.{Answer}
+use Rattle.wire.specs.Answers.{Answer, check, and_then}
 use Rattle.plain.specs.Offers.{asked}
-use Rattle.plain.specs.Edits.{Edit, editing}
+use Rattle.plain.specs.Edits.{Edit, header_of, editing}
 use Rattle.plain.specs.Steps.{edited}
 use Rattle.drafter.specs.declared.state.Core.{Core}
 use Rattle.drafter.specs.declared.state.Phase.TheVariants as phase
@@ -22,6 +23,14 @@ size_in c position = let records : List ℕ = take c.end c.buffer.now in size_at
 -- the code of the first payload, or 0
 abbrev pub first_in : Core → ℕ
 first_in c = first 0 (plain_of c).held.payloads
+
+-- the code of what follows the payload at a position, or 0
+abbrev pub next_in : Core → ℕ → ℕ
+next_in c position = first 0 (drop (position + 1) (plain_of c).held.payloads)
+
+-- what an edit at one of the first so many positions is refused for before all else
+abbrev pub placing : ℕ → ℕ → Core → Answer (Unit {0})
+placing i places c = and_then (header_of (plain_of c).held.header) (λ _. check (nat_lt i places) NoPosition (Ok tt))
 
 -- what an edit is refused for, or nothing
 abbrev pub asking : Edit → Core → Answer (Unit {0})

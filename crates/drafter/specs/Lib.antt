@@ -3,4 +3,5 @@ pub mod Spots
 pub mod Cores
 pub mod Edits
 pub mod Signs
+pub mod Calls
 pub mod Views

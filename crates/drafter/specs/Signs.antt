@@ -50,12 +50,6 @@ standable c type n =
     (check (nat_le (length (encode (signed_as h (plain_of c).held.payloads (unsigned type n)))) c.counted) NoRoom
     (Ok tt)))
 
-abbrev pub is_open : Phase → Bool
-is_open phase.Open = true
-is_open (phase.Signing delivered) = false
-is_open (phase.Faulty f) = false
-is_open phase.Released = false
-
 -- a draft that is out: with SIGN, or with a fault
 abbrev pub is_out : Phase → Bool
 is_out phase.Open = false

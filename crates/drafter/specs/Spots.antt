@@ -1,5 +1,6 @@
 -- Where the payloads of a draft start, by the codes and lengths in its bytes.
-use Rattle.std.specs.Prelude.{ℕ, zero, suc, ◌+◌, List, [], ◌∷◌, take, drop, Some, None, Option, slice_index}
+use Rattle.std.specs.Prelude.{ℕ, zero, suc, ◌+◌, List, [], ◌∷◌, take, drop, slice_index}
+use Rattle.std.specs.Option.{unwrap_or}
 use Rattle.wire.specs.declared.kind.Kind.{Kind}
 use Rattle.wire.specs.declared.kind.Kind.TheVariants.{T}
 use Rattle.wire.specs.Kinds.{kind_of}
@@ -8,12 +9,8 @@ use Rattle.wire.specs.Extents.{extent}
 use Rattle.drafter.specs.declared.spot.Spot.{Spot}
 
 -- no draft holds a code that names nothing
-abbrev or_t : Option Kind → Kind
-or_t None = T
-or_t (Some k) = k
-
 abbrev pub kind_in : ℕ → Kind
-kind_in code = or_t (kind_of code)
+kind_in code = unwrap_or (kind_of code) T
 
 -- how long the payload at a spot is, with its next-payload byte
 abbrev pub size_at : List ℕ → Spot → ℕ

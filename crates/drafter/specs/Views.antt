@@ -1,35 +1,22 @@
--- Drafts as their callers see them: the plain draft, the buffer, and whose buffer it is.
-use Rattle.std.specs.Prelude.{ℕ, List}
+-- A draft in its buffer as its callers see it: the plain draft, the bytes, and whose buffer it is.
+use Rattle.std.specs.Prelude.{◌≡◌, ℕ, List}
 use Rattle.std.specs.Borrow.{GName}
-use Rattle.plain.specs.Drafts.{Draft as Plain}
-use Rattle.drafter.specs.declared.types.Open.{Open}
-use Rattle.drafter.specs.declared.types.Out.{Out}
-use Rattle.drafter.specs.declared.types.Draft.{Draft}
+use Rattle.plain.specs.declared.calls.Reply.{Reply}
+use Rattle.plain.specs.Drafts.{Draft}
+use Rattle.plain.specs.Steps.{Step}
+use Rattle.plain.specs.Turns.{Turns}
+use Rattle.drafter.specs.declared.state.Core.{Core}
 use Rattle.drafter.specs.Cores.{plain_of}
 
-abbrev pub plain : Open → Plain
-plain o = plain_of o.core
+pub record View : Type 0 where
+  pub plain : Draft
+  pub bytes : List ℕ
+  pub lent : GName
 
-abbrev pub bytes : Open → List ℕ
-bytes o = o.core.buffer.now
+abbrev pub view_of : Core → View
+view_of c = record { plain = plain_of c; bytes = c.buffer.now; lent = c.buffer.ghost_name }
 
-abbrev pub lent : Open → GName
-lent o = o.core.buffer.ghost_name
-
-abbrev pub plain_out : Out → Plain
-plain_out o = plain_of o.core
-
-abbrev pub bytes_out : Out → List ℕ
-bytes_out o = o.core.buffer.now
-
-abbrev pub lent_out : Out → GName
-lent_out o = o.core.buffer.ghost_name
-
-abbrev pub plain_draft : Draft → Plain
-plain_draft o = plain_of o.core
-
-abbrev pub bytes_draft : Draft → List ℕ
-bytes_draft o = o.core.buffer.now
-
-abbrev pub lent_draft : Draft → GName
-lent_draft o = o.core.buffer.ghost_name
+-- a call turns a draft into another, with this reply, in the buffer that was lent
+pub record Turned (c : Step) (before after : View) (reply : Reply) : Type 0 where
+  pub turns : Turns c before.plain after.plain before.bytes after.bytes reply
+  pub name : after.lent ≡ before.lent

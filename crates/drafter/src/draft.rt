@@ -1,22 +1,23 @@
 // A draft in whichever state, which takes every call.
 ghost use Rattle.std.specs.Prelude.{◌≡◌};
 ghost use Rattle.plain.specs.Drafts.{begin as begun, image, encoded};
-ghost use Rattle.plain.specs.Steps.{called, step};
+ghost use Rattle.plain.specs.Steps.{called};
 ghost use Rattle.plain.specs.Kept.{Widths};
-ghost use Rattle.plain.specs.Turns.{settled, delivering, Turns};
-ghost use Rattle.drafter.specs.Cores.{plain_of, Shown};
+ghost use Rattle.drafter.specs.Cores.{Shown};
+ghost use Rattle.drafter.specs.Calls.{Makes};
 ghost use Rattle.drafter.specs.Edits.{Editable};
-ghost use Rattle.drafter.specs.Signs.{Follows, OutDraft};
-ghost use Rattle.drafter.specs.Views.{plain_draft, bytes_draft, lent_draft};
+ghost use Rattle.drafter.specs.Signs.{OutDraft};
+ghost use Rattle.drafter.specs.Views.{Turned};
 
-use crate::open::{start, widths};
+use crate::edit::{Add, Remove, Replace, widths};
+use crate::open::begin;
 use crate::state::{Core, Phase};
-use crate::types::Draft;
+use crate::types::{Draft, Open};
 use plain::{Call, Reply};
 use profile::Profile;
-use wire::{Refusal, octets};
+use wire::octets;
 
-// The arguments of a call are of their widths.
+// The arguments of a call are of their widths. A proof knows it of those that are read.
 fn call_widths<P: Profile>(call: &Call<'_, P>)
     ensures { Widths (called P.Profile.tables call.now) }
 {
@@ -29,68 +30,50 @@ fn call_widths<P: Profile>(call: &Call<'_, P>)
     }
 }
 
-fn settle(answer: Result<(), Refusal>) -> Reply
-    ensures { result ≡ settled answer }
-{
-    match answer {
-        Ok(()) => Reply::Done,
-        Err(refusal) => Reply::Refused(refusal),
-    }
-}
-
-fn deliver(answer: Result<usize, Refusal>) -> Reply
-    ensures { result ≡ delivering answer }
-{
-    match answer {
-        Ok(length) => Reply::Delivered(length),
-        Err(refusal) => Reply::Refused(refusal),
-    }
-}
-
 impl<'a> Core<'a> {
     fn call_open<P: Profile>(&mut self, call: &Call<'_, P>) -> Reply
-        requires draft { Editable self.old }
-        requires widths { Widths (called P.Profile.tables call.now) }
-        ensures answer { result ≡ (step self.old.counted (plain_of self.old) (called P.Profile.tables call.now)).reply }
-        ensures follows { Follows (called P.Profile.tables call.now) self.old self.new }
-        ensures name { self.new.buffer.ghost_name ≡ self.old.buffer.ghost_name }
+        requires { Editable self.old }
+        ensures { Makes (called P.Profile.tables call.now) self.old self.new result }
     {
-        match call {
-            Call::Head(head) => settle(self.head(head)),
+        match *call {
+            Call::Head(head) => self.edit(&head).into(),
             Call::Add {
                 position,
                 code,
                 body,
-            } => settle(self.add(*position, *code, body)),
+            } => Reply::from(self.edit(&Add {
+                position,
+                code,
+                body,
+            })),
             Call::Replace {
                 position,
                 code,
                 body,
-            } => settle(self.replace(*position, *code, body)),
-            Call::Remove { position } => settle(self.remove(*position)),
+            } => Reply::from(self.edit(&Replace {
+                position,
+                code,
+                body,
+            })),
+            Call::Remove { position } => self.edit(&Remove { position }).into(),
             Call::Close {
                 profile,
                 sign_type,
                 length,
             } => {
-                self.close(*profile, *sign_type, *length);
+                self.close(profile, sign_type, length);
                 Reply::Done
             }
             _ => Reply::Misplaced,
         }
     }
-}
 
-impl<'a> Core<'a> {
     fn call_out<P: Profile>(&mut self, call: &Call<'_, P>) -> Reply
-        requires draft { OutDraft self.old }
-        requires widths { Widths (called P.Profile.tables call.now) }
-        ensures answer { result ≡ (step self.old.counted (plain_of self.old) (called P.Profile.tables call.now)).reply }
-        ensures follows { Follows (called P.Profile.tables call.now) self.old self.new }
-        ensures name { self.new.buffer.ghost_name ≡ self.old.buffer.ghost_name }
+        requires { OutDraft self.old }
+        ensures { Makes (called P.Profile.tables call.now) self.old self.new result }
     {
         match call {
-            Call::Sign(signature) => deliver(self.sign(signature)),
+            Call::Sign(signature) => self.sign(signature).into(),
             Call::Withdraw => {
                 self.withdraw();
                 Reply::Done
@@ -101,11 +84,8 @@ impl<'a> Core<'a> {
     }
 
     fn call<P: Profile>(&mut self, call: &Call<'_, P>) -> Reply
-        requires draft { Shown self.old }
-        requires widths { Widths (called P.Profile.tables call.now) }
-        ensures answer { result ≡ (step self.old.counted (plain_of self.old) (called P.Profile.tables call.now)).reply }
-        ensures follows { Follows (called P.Profile.tables call.now) self.old self.new }
-        ensures name { self.new.buffer.ghost_name ≡ self.old.buffer.ghost_name }
+        requires { Shown self.old }
+        ensures { Makes (called P.Profile.tables call.now) self.old self.new result }
     {
         match self.phase {
             Phase::Open => self.call_open(call),
@@ -118,20 +98,18 @@ impl<'a> Core<'a> {
 impl<'a> Draft<'a> {
     // An open draft without header or payloads.
     pub fn begin(buffer: &'a mut [u8]) -> Draft<'a>
-        ensures draft { plain_draft result ≡ begun }
-        ensures buffer { bytes_draft result ≡ image buffer.old begun }
-        ensures lent { lent_draft result ≡ buffer.entry.ghost_name }
+        ensures draft { result.plain ≡ begun }
+        ensures buffer { result.bytes ≡ image buffer.old begun }
+        ensures lent { result.lent ≡ buffer.entry.ghost_name }
     {
-        Draft {
-            core: start(buffer),
-        }
+        let Open { core } = begin(buffer);
+        Draft { core }
     }
 
     // Makes a call, or tells that the state does not take it.
     pub fn call<P: Profile>(&mut self, call: &Call<'_, P>) -> Reply
-        ensures turns { Turns (called P.Profile.tables call.now) (plain_draft self.old) (plain_draft self.new) (bytes_draft self.old) (bytes_draft self.new) result }
+        ensures turned { Turned (called P.Profile.tables call.now) self.old self.new result }
         ensures widths { Widths (called P.Profile.tables call.now) }
-        ensures lent { lent_draft self.new ≡ lent_draft self.old }
     {
         call_widths(call);
         self.core.call(call)
@@ -139,15 +117,15 @@ impl<'a> Draft<'a> {
 
     // The encoding of the records held.
     pub fn bytes(&self) -> &[u8]
-        ensures { result.now ≡ encoded (plain_draft self.now) }
+        ensures { result.now ≡ encoded self.now.plain }
     {
         self.core.encoding()
     }
 
     // Ends the draft in whichever state, and gives the buffer back as it stands.
     pub fn end(self) -> &'a mut [u8]
-        ensures buffer { result.now ≡ bytes_draft self.entry }
-        ensures lent { result.ghost_name ≡ lent_draft self.entry }
+        ensures buffer { result.now ≡ self.entry.bytes }
+        ensures lent { result.ghost_name ≡ self.entry.lent }
     {
         let Draft { core } = self;
         let Core { buffer, .. } = core;

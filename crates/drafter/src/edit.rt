@@ -1,200 +1,101 @@
 // The edits of an open draft.
-ghost use Rattle.std.specs.Prelude.{◌≡◌, ◌<◌, ◌≤◌, length, take};
-ghost use Rattle.wire.specs.Octets.{Octets};
+ghost use Rattle.std.specs.Prelude.{◌≡◌, ◌+◌, ◌<◌, ◌≤◌, take};
+ghost use Rattle.plain.specs.Edits.{Edit as PlainEdit};
 ghost use Rattle.plain.specs.Edits.Edit.{head as head_edit, add as add_edit, replace as replace_edit, remove as remove_edit};
 ghost use Rattle.plain.specs.Steps.{headed};
 ghost use Rattle.plain.specs.Kept.{EditWidths};
+ghost use Rattle.plain.specs.Steps.Step.{edit as edit_step};
+ghost use Rattle.plain.specs.Turns.{settled};
 ghost use Rattle.drafter.specs.Spots.{spot_at};
 ghost use Rattle.drafter.specs.Cores.{Shown};
-ghost use Rattle.drafter.specs.Edits.{Editable, size_in, first_in, asking, Accepted, Leaves};
+ghost use Rattle.drafter.specs.Edits.{Editable, size_in, first_in, next_in, placing, asking, Accepted, Leaves};
+ghost use Rattle.drafter.specs.Calls.{Makes};
 
 use crate::buffer::{place, put_header, take_out};
 use crate::offer::{ask_map, ask_payload};
-use crate::spot::{Spot, find, size_at};
+use crate::spot::{Part, Spot, find, size_at};
 use crate::state::Core;
 use plain::Head;
-use wire::Refusal;
+use wire::{MOST_PAYLOADS, Refusal, octets};
 
 // How many payloads a draft holds at most: SIGN has a place of its own.
-const MOST: usize = 23;
+const MOST: usize = MOST_PAYLOADS - 1;
+
+// An edit of a draft. It is asked first, and made if it is not refused.
+pub(crate) trait Edit {
+    ghost edit: { Self → PlainEdit };
+
+    fn ask(&self, core: &Core<'_>) -> Result<(), Refusal>
+        requires { Editable core.now }
+        ensures { result ≡ asking (edit self.now) core.now };
+
+    fn make(&self, core: &mut Core<'_>)
+        requires draft { Editable core.old }
+        requires asked { Accepted (edit self.now) core.old }
+        ensures { Leaves (edit self.now) core.old core.new };
+}
+
+// A payload of this code and body at a position; the later ones follow it.
+#[derive(Drop)]
+pub(crate) struct Add<'a> {
+    pub(crate) position: usize,
+    pub(crate) code: u8,
+    pub(crate) body: &'a [u8],
+}
+
+// A payload of this code and body in the place of the one at a position. It holds what Add holds, but an edit is a type of its own; the
+// three fields in a struct of their own were tried: as many lines, and a `.0` at each use.
+#[derive(Drop)]
+pub(crate) struct Replace<'a> {
+    pub(crate) position: usize,
+    pub(crate) code: u8,
+    pub(crate) body: &'a [u8],
+}
+
+// The payload at a position goes; the later ones follow into its place.
+#[derive(Drop)]
+pub(crate) struct Remove {
+    pub(crate) position: usize,
+}
 
 impl<'a> Core<'a> {
+    // Asks an edit, and makes it if it is not refused.
+    pub(crate) fn edit<E: Edit>(&mut self, edit: &E) -> Result<(), Refusal>
+        requires { Editable self.old }
+        ensures { Makes (edit_step (E.edit edit.now)) self.old self.new (settled result) }
+    {
+        edit.ask(self)?;
+        edit.make(self);
+        Ok(())
+    }
+
     // The spot of the payload at a position, or the one behind the last.
     pub(crate) fn spot(&self, position: usize) -> Spot
         requires draft { Shown self.now }
         requires there { (0 < self.now.header) × (position ≤ self.now.count) }
-        ensures { result ≡ spot_at self.now.header position (take self.now.end self.now.buffer.now) }
+        ensures is { result ≡ spot_at self.now.header position (take self.now.end self.now.buffer.now) }
+        ensures within { (result.naming < result.at) × (result.at ≤ self.now.end) }
     {
         let end = self.end;
-        find(&self.buffer[0..end], self.header, position)
+        find(&self.buffer[..end], self.header, position)
     }
 
-    // How long the payload at a position is, with its next-payload byte.
-    fn size(&self, position: usize) -> usize
-        requires draft { Shown self.now }
+    // The payload at a position.
+    fn part(&self, position: usize) -> Part
+        requires draft { Editable self.now }
         requires there { (0 < self.now.header) × (position < self.now.count) }
-        ensures { result ≡ size_in self.now position }
+        ensures spot { result.spot ≡ spot_at self.now.header position (take self.now.end self.now.buffer.now) }
+        ensures size { result.size ≡ size_in self.now position }
+        ensures next { result.next ≡ next_in self.now position }
+        ensures within { (result.spot.naming < result.spot.at) × (result.spot.at + result.size ≤ self.now.end) }
     {
         let spot = self.spot(position);
         let end = self.end;
-        size_at(&self.buffer[0..end], spot)
-    }
-
-    fn ask_add(&self, position: usize, code: u8, body: &[u8]) -> Result<(), Refusal>
-        requires { Editable self.now }
-        ensures { result ≡ asking (add_edit position code body.now) self.now }
-    {
-        if self.header == 0 {
-            return Err(Refusal::NoHeader);
+        Part {
+            spot,
+            size: size_at(&self.buffer[..end], spot),
+            next: self.buffer[spot.at],
         }
-        if position > self.count {
-            return Err(Refusal::NoPosition);
-        }
-        ask_payload(code, body)?;
-        if self.count >= MOST {
-            return Err(Refusal::DraftFull);
-        }
-        if body.len() >= self.counted - self.end {
-            return Err(Refusal::NoRoom);
-        }
-        Ok(())
-    }
-}
-
-impl<'a> Core<'a> {
-    fn insert(&mut self, position: usize, code: u8, body: &[u8])
-        requires draft { Editable self.old }
-        requires asked { Accepted (add_edit position code body.now) self.old }
-        requires octets { Octets body.now }
-        ensures leaves { Leaves (add_edit position code body.now) self.old self.new }
-        ensures name { self.new.buffer.ghost_name ≡ self.old.buffer.ghost_name }
-    {
-        let spot = self.spot(position);
-        let end = self.end;
-        let next = self.buffer[spot.naming];
-        place(self.buffer, end, spot, 0, next, code, body);
-        self.count += 1;
-        self.end = end + 1 + body.len();
-        self.full = self.end;
-    }
-
-    // A payload of this code and body at a position; the later ones follow it.
-    pub(crate) fn add(&mut self, position: usize, code: u8, body: &[u8]) -> Result<(), Refusal>
-        requires draft { Editable self.old }
-        requires octets { Octets body.now }
-        ensures answer { result ≡ asking (add_edit position code body.now) self.old }
-        ensures leaves { Leaves (add_edit position code body.now) self.old self.new }
-        ensures name { self.new.buffer.ghost_name ≡ self.old.buffer.ghost_name }
-    {
-        self.ask_add(position, code, body)?;
-        self.insert(position, code, body);
-        Ok(())
-    }
-}
-
-impl<'a> Core<'a> {
-    fn ask_replace(&self, position: usize, code: u8, body: &[u8]) -> Result<(), Refusal>
-        requires { Editable self.now }
-        ensures { result ≡ asking (replace_edit position code body.now) self.now }
-    {
-        if self.header == 0 {
-            return Err(Refusal::NoHeader);
-        }
-        if position >= self.count {
-            return Err(Refusal::NoPosition);
-        }
-        ask_payload(code, body)?;
-        let others = self.end - self.size(position);
-        if body.len() >= self.counted - others {
-            return Err(Refusal::NoRoom);
-        }
-        Ok(())
-    }
-
-    fn change(&mut self, position: usize, code: u8, body: &[u8])
-        requires draft { Editable self.old }
-        requires asked { Accepted (replace_edit position code body.now) self.old }
-        requires octets { Octets body.now }
-        ensures leaves { Leaves (replace_edit position code body.now) self.old self.new }
-        ensures name { self.new.buffer.ghost_name ≡ self.old.buffer.ghost_name }
-    {
-        let old = self.size(position);
-        let spot = self.spot(position);
-        let end = self.end;
-        let next = self.buffer[spot.at];
-        place(self.buffer, end, spot, old, next, code, body);
-        self.end = end - old + 1 + body.len();
-        self.full = self.end;
-    }
-
-    // A payload of this code and body in the place of the one at a position.
-    pub(crate) fn replace(&mut self, position: usize, code: u8, body: &[u8]) -> Result<(), Refusal>
-        requires draft { Editable self.old }
-        requires octets { Octets body.now }
-        ensures answer { result ≡ asking (replace_edit position code body.now) self.old }
-        ensures leaves { Leaves (replace_edit position code body.now) self.old self.new }
-        ensures name { self.new.buffer.ghost_name ≡ self.old.buffer.ghost_name }
-    {
-        self.ask_replace(position, code, body)?;
-        self.change(position, code, body);
-        Ok(())
-    }
-}
-
-impl<'a> Core<'a> {
-    fn ask_remove(&self, position: usize) -> Result<(), Refusal>
-        requires { Editable self.now }
-        ensures { result ≡ asking (remove_edit position) self.now }
-    {
-        if self.header == 0 {
-            return Err(Refusal::NoHeader);
-        }
-        if position >= self.count {
-            return Err(Refusal::NoPosition);
-        }
-        Ok(())
-    }
-
-    fn delete(&mut self, position: usize)
-        requires draft { Editable self.old }
-        requires asked { Accepted (remove_edit position) self.old }
-        ensures leaves { Leaves (remove_edit position) self.old self.new }
-        ensures name { self.new.buffer.ghost_name ≡ self.old.buffer.ghost_name }
-    {
-        let old = self.size(position);
-        let spot = self.spot(position);
-        let end = self.end;
-        let next = self.buffer[spot.at];
-        take_out(self.buffer, end, spot, old, next);
-        self.count -= 1;
-        self.end = end - old;
-        self.full = self.end;
-    }
-
-    // The payload at a position goes; the later ones follow into its place.
-    pub(crate) fn remove(&mut self, position: usize) -> Result<(), Refusal>
-        requires { Editable self.old }
-        ensures answer { result ≡ asking (remove_edit position) self.old }
-        ensures leaves { Leaves (remove_edit position) self.old self.new }
-        ensures name { self.new.buffer.ghost_name ≡ self.old.buffer.ghost_name }
-    {
-        self.ask_remove(position)?;
-        self.delete(position);
-        Ok(())
-    }
-}
-
-impl<'a> Core<'a> {
-    fn ask_head(&self, head: &Head<'_>) -> Result<(), Refusal>
-        requires { Editable self.now }
-        ensures { result ≡ asking (head_edit (headed head.now)) self.now }
-    {
-        ask_map(head.cs, head.map_type, head.map_info)?;
-        let room = self.counted - (self.end - self.header);
-        if room < 10 || head.map_info.len() > room - 10 {
-            return Err(Refusal::NoRoom);
-        }
-        Ok(())
     }
 
     // The code of the first payload, or 0.
@@ -205,32 +106,130 @@ impl<'a> Core<'a> {
         if self.header == 0 { 0 } else { self.buffer[2] }
     }
 
-    fn set_header(&mut self, head: &Head<'_>)
-        requires draft { Editable self.old }
-        requires asked { Accepted (head_edit (headed head.now)) self.old }
-        requires widths { EditWidths (head_edit (headed head.now)) }
-        ensures leaves { Leaves (head_edit (headed head.now)) self.old self.new }
-        ensures name { self.new.buffer.ghost_name ≡ self.old.buffer.ghost_name }
+    // The payloads end there, and no SIGN stands behind them.
+    fn end_at(&mut self, end: usize)
+        ensures { self.new ≡ record self.old { end = end; full = end } }
     {
-        let next = self.first();
-        let old = self.header;
-        let end = self.end;
-        put_header(self.buffer, end, old, next, head);
-        self.header = 10 + head.map_info.len();
-        self.end = end - old + self.header;
-        self.full = self.end;
+        self.end = end;
+        self.full = end;
     }
 
-    // Another header; the payloads stay.
-    pub(crate) fn head(&mut self, head: &Head<'_>) -> Result<(), Refusal>
-        requires draft { Editable self.old }
-        requires widths { EditWidths (head_edit (headed head.now)) }
-        ensures answer { result ≡ asking (head_edit (headed head.now)) self.old }
-        ensures leaves { Leaves (head_edit (headed head.now)) self.old self.new }
-        ensures name { self.new.buffer.ghost_name ≡ self.old.buffer.ghost_name }
+    // What an edit at one of the first `places` positions is refused for before all else.
+    fn ask_position(&self, position: usize, places: usize) -> Result<(), Refusal>
+        requires { Shown self.now }
+        ensures { result ≡ placing position places self.now }
     {
-        self.ask_head(head)?;
-        self.set_header(head);
+        if self.header == 0 {
+            return Err(Refusal::NoHeader);
+        }
+        if position >= places {
+            return Err(Refusal::NoPosition);
+        }
         Ok(())
+    }
+}
+
+impl Edit for Add<'_> {
+    ghost edit = { λ x. add_edit x.position x.code x.body.now };
+
+    #[tactic(auto, using(crate::proofs::Asking::add_told, std::proofs::lemmas::Bool::Decides::nat_tests))]
+    fn ask(&self, core: &Core<'_>) -> Result<(), Refusal> {
+        core.ask_position(self.position, core.count + 1)?;
+        ask_payload(self.code, self.body)?;
+        if core.count >= MOST {
+            return Err(Refusal::DraftFull);
+        }
+        if self.body.len() >= core.counted - core.end {
+            return Err(Refusal::NoRoom);
+        }
+        Ok(())
+    }
+
+    fn make(&self, core: &mut Core<'_>) {
+        octets(self.body);
+        let spot = core.spot(self.position);
+        let end = core.end;
+        let part = Part {
+            spot,
+            size: 0,
+            next: core.buffer[spot.naming],
+        };
+        place(core.buffer, end, part, self.code, self.body);
+        core.count += 1;
+        core.end_at(end + 1 + self.body.len());
+    }
+}
+
+impl Edit for Replace<'_> {
+    ghost edit = { λ x. replace_edit x.position x.code x.body.now };
+
+    #[tactic(auto, using(crate::proofs::Replacing::replace_told, std::proofs::lemmas::Bool::Decides::nat_tests))]
+    fn ask(&self, core: &Core<'_>) -> Result<(), Refusal> {
+        core.ask_position(self.position, core.count)?;
+        ask_payload(self.code, self.body)?;
+        let others = core.end - core.part(self.position).size;
+        if self.body.len() >= core.counted - others {
+            return Err(Refusal::NoRoom);
+        }
+        Ok(())
+    }
+
+    fn make(&self, core: &mut Core<'_>) {
+        octets(self.body);
+        let part = core.part(self.position);
+        let end = core.end;
+        place(core.buffer, end, part, self.code, self.body);
+        core.end_at(end - part.size + 1 + self.body.len());
+    }
+}
+
+impl Edit for Remove {
+    ghost edit = { λ x. remove_edit x.position };
+
+    fn ask(&self, core: &Core<'_>) -> Result<(), Refusal> {
+        core.ask_position(self.position, core.count)
+    }
+
+    fn make(&self, core: &mut Core<'_>) {
+        let part = core.part(self.position);
+        let end = core.end;
+        take_out(core.buffer, end, part);
+        core.count -= 1;
+        core.end_at(end - part.size);
+    }
+}
+
+// A proof knows the width of a field, and that the bytes of a slice in a field are below 256, only if they are read. This reads
+// those of a header and does nothing; `octets` does the same for a body.
+pub(crate) fn widths(head: &Head<'_>)
+    ensures { EditWidths (head_edit (headed head.now)) }
+{
+    let _byte3 = head.byte3;
+    let _csb = head.csb;
+    octets(head.map_info);
+}
+
+// Another header; the payloads stay.
+impl Edit for Head<'_> {
+    ghost edit = { λ x. head_edit (headed x) };
+
+    #[tactic(auto, using(crate::proofs::Heading::head_told))]
+    fn ask(&self, core: &Core<'_>) -> Result<(), Refusal> {
+        ask_map(self.cs, self.map_type, self.map_info)?;
+        let room = core.counted - (core.end - core.header);
+        if 10 + self.map_info.len() > room {
+            return Err(Refusal::NoRoom);
+        }
+        Ok(())
+    }
+
+    fn make(&self, core: &mut Core<'_>) {
+        widths(self);
+        let next = core.first();
+        let old = core.header;
+        let end = core.end;
+        put_header(core.buffer, end, old, next, self);
+        core.header = 10 + self.map_info.len();
+        core.end_at(end - old + core.header);
     }
 }

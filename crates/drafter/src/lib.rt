@@ -5,6 +5,7 @@ mod buffer;
 mod delivery;
 mod draft;
 mod edit;
+mod form;
 mod offer;
 mod open;
 mod out;

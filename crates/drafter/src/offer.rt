@@ -5,6 +5,7 @@ ghost use Rattle.plain.specs.Offers.{unplaced, asked, offering, mapping};
 use walk::{body as body_length, info_length, map_fits};
 use wire::{Kind, Refusal};
 
+// A map that is offered has no place in a message: the two refusals of its sessions that tell one tell 0.
 fn unplace(refusal: Refusal) -> Refusal
     ensures { result ≡ unplaced refusal }
 {
@@ -19,10 +20,9 @@ fn unplace(refusal: Refusal) -> Refusal
 pub(crate) fn ask_payload(code: u8, body: &[u8]) -> Result<(), Refusal>
     ensures { result ≡ asked (offering code body.now) }
 {
-    let kind = Kind::of(code).ok_or(Refusal::UnknownCode(0))?;
-    if kind == Kind::Sign {
-        return Err(Refusal::UnknownCode(0));
-    }
+    let kind = Kind::of(code)
+        .filter(|kind| *kind != Kind::Sign)
+        .ok_or(Refusal::UnknownCode(0))?;
     let length = body_length(kind, 0, body)?;
     if length < body.len() {
         return Err(Refusal::BytesLeft(0));
@@ -37,9 +37,9 @@ pub(crate) fn ask_map(cs: u8, map_type: u8, info: &[u8]) -> Result<(), Refusal>
     if !map_fits(cs, map_type) {
         return Err(Refusal::SessionMap(0));
     }
-    match info_length(cs, info) {
-        Ok(length) if length < info.len() => Err(Refusal::MapInfoLeft),
-        Ok(_) => Ok(()),
-        Err(refusal) => Err(unplace(refusal)),
+    let length = info_length(cs, info).map_err(unplace)?;
+    if length < info.len() {
+        return Err(Refusal::MapInfoLeft);
     }
+    Ok(())
 }

@@ -1,6 +1,6 @@
 // Where the payloads of a draft stand in its buffer.
 ghost use Rattle.std.specs.Prelude.{◌≡◌, ℕ, ◌<◌, ◌≤◌, length};
-ghost use Rattle.drafter.specs.Spots.{kind_in, size_at, spot_at};
+ghost use Rattle.drafter.specs.Spots.{size_at, spot_at};
 
 use walk::reach;
 use wire::{Kind, byte_at};
@@ -12,14 +12,12 @@ pub(crate) struct Spot {
     pub(crate) at: usize,
 }
 
-// No draft holds a code that names nothing.
-fn kind_in(code: u8) -> Kind
-    ensures { result ≡ kind_in code }
-{
-    match Kind::of(code) {
-        Some(kind) => kind,
-        None => Kind::T,
-    }
+// A part of a buffer that gives way: its spot, how long it is, and the code of what follows it. It is empty where a payload is added.
+#[derive(Clone, Copy)]
+pub(crate) struct Part {
+    pub(crate) spot: Spot,
+    pub(crate) size: usize,
+    pub(crate) next: u8,
 }
 
 // How long the payload at a spot is, with its next-payload byte.
@@ -28,11 +26,13 @@ pub(crate) fn size_at(bytes: &[u8], spot: Spot) -> usize
     ensures is { result ≡ size_at bytes.now spot }
     ensures small { result < 65541 }
 {
-    let kind = kind_in(byte_at(bytes, spot.naming));
+    // No draft holds a code that names nothing.
+    let kind = Kind::of(byte_at(bytes, spot.naming)).unwrap_or(Kind::T);
     1 + reach(kind, &bytes[spot.at + 1..])
 }
 
 // The spot of the payload at a position, behind a header of so many bytes.
+#[tactic(auto, unfolding(crate::specs::Spots::spot_at))]
 pub(crate) fn find(bytes: &[u8], header: usize, position: usize) -> Spot
     requires few { length bytes.now ≤ 8192 }
     requires there { (i : ℕ) → i < position → (spot_at header i bytes.now).at < length bytes.now }
@@ -42,6 +42,7 @@ pub(crate) fn find(bytes: &[u8], header: usize, position: usize) -> Spot
         naming: 2,
         at: header,
     };
+    // No index is counted here: the step is repeated. A fold's closure would want it shown at each turn that the spot is inside.
     for _i in 0..position {
         spot = Spot {
             naming: spot.at,

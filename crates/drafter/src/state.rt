@@ -14,8 +14,11 @@ pub(crate) enum Phase {
     Released,
 }
 
-// Of the buffer, `counted` bytes count. The header has `header` bytes, none before head. The `count` payloads end at `end`,
-// and SIGN, if it stands, at `full`.
+// Core has no model of its own, which was tried: a clause then sees only the view, and the lengths would have to be said anew by the
+// records, and shown again behind every write. What its functions ask of it (Shown, Editable, Signed, OutDraft) is what the models of
+// Open, Out and Draft keep.
+// The buffer is lent and there is no heap, so that lengths stand beside it. Of the buffer, `counted` bytes count. The header has `header`
+// bytes, 0 before head, which is what the sums of lengths want. The `count` payloads end at `end`, and SIGN, if it stands, at `full`.
 #[derive(Drop)]
 pub(crate) struct Core<'a> {
     pub(crate) buffer: &'a mut [u8],
@@ -33,8 +36,7 @@ impl<'a> Core<'a> {
         requires { Shown self.now }
         ensures { result.now ≡ encoded (plain_of self.now) }
     {
-        let full = self.full;
-        &self.buffer[0..full]
+        &self.buffer[..self.full]
     }
 
     // What a signature is over, while SIGN stands.
@@ -45,7 +47,6 @@ impl<'a> Core<'a> {
         if self.end == self.full {
             return &[];
         }
-        let end = self.end + 2;
-        &self.buffer[0..end]
+        &self.buffer[..self.end + 2]
     }
 }

@@ -1,5 +1,6 @@
 -- Messages that differ in the signature's bytes alone are admitted alike.
-use Rattle.std.proofs.Common.{◌≡◌, ◌+◌, ◌*◌, ◌/◌, List, [], ◌∷◌, ◌++◌, length, refl, ap, subst, ap₂}
+use Rattle.std.proofs.Common.{◌≡◌, ◌+◌, ◌*◌, ◌/◌, List, [], ◌∷◌, ◌++◌, length, sym, ◌∙◌, subst, ap₂}
+use Rattle.std.proofs.lemmas.List.{map-append}
 use Rattle.std.specs.List.{AllByRecursion}
 use Rattle.wire.specs.declared.kind.Kind.TheVariants.{Sign as SignKind}
 use Rattle.wire.specs.Messages.{Header, Payload, sign_body}
@@ -16,14 +17,10 @@ last_alike : (P : Payload → Type 0) (x y : Payload) → (P x → P y) → (ps 
 last_alike P x y f [] a = (f a.0, tt)
 last_alike P x y f (p ∷ ps) a = (a.0, last_alike P x y f ps a.1)
 
-slots_alike : (g k : Sign) (ps : List Payload) → slots_of (ps ++ (piece g ∷ [])) ≡ slots_of (ps ++ (piece k ∷ []))
-slots_alike g k [] = refl
-slots_alike g k (p ∷ ps) = ap (λ x. slot p ∷ x) (slots_alike g k ps)
-
 pub admits_alike : (T : Tables) (h : Header) (ps : List Payload) (g k : Sign) → g.type ≡ k.type → length g.signature ≡ length k.signature → Admits T (signed_as h ps g)
     → Admits T (signed_as h ps k)
 admits_alike T h ps g k t n a =
-    let slots_same = slots_alike g k ps in
+    let slots_same : slots_of (ps ++ (piece g ∷ [])) ≡ slots_of (ps ++ (piece k ∷ [])) = map-append slot ps (piece g ∷ []) ∙ sym (map-append slot ps (piece k ∷ [])) in
     let one : fields (piece g) ≡ fields (piece k) = ap₂ (λ x y. field 10 0 ((x * 4096 + y) / 256 / 16) ∷ []) t n in
     record {
       header = a.header;

@@ -5,10 +5,10 @@ use Rattle.wire.specs.declared.refusal.Refusal.{Refusal}
 use Rattle.wire.specs.declared.refusal.Refusal.TheVariants.{NoHeader, NoRoom, SignForm}
 use Rattle.wire.specs.Refusals.{told}
 use Rattle.wire.specs.Messages.{Header, Message, encode}
-use Rattle.wire.specs.Lawful.{Lawful}
 use Rattle.wire.specs.Rows.{rows}
 use Rattle.wire.specs.Answers.{Answer, check, and_then}
-use Rattle.wire.proofs.Messages.{read_back, pieces_count}
+use Rattle.wire.proofs.Answers.{same_err}
+use Rattle.wire.proofs.Messages.{read_back}
 use Rattle.profile.specs.Tables.{Tables}
 use Rattle.profile.specs.Admitting.{admitting}
 use Rattle.verifier.specs.Signed.{Signed}
@@ -17,8 +17,8 @@ use Rattle.plain.specs.Drafts.Stage.{opened, signing, faulty, released}
 use Rattle.plain.specs.Edits.{header_of}
 use Rattle.plain.specs.Steps.{sign_fits, unsigned, closing, closed, taken}
 use Rattle.plain.specs.Steps.Step.{close}
-use Rattle.plain.specs.Kept.{HeaderKept, Sound}
-use Rattle.plain.proofs.Keeping.{unsigned_lawful}
+use Rattle.plain.specs.Kept.{Sound}
+use Rattle.plain.proofs.Keeping.{unsigned_lawful, sound_lawful}
 use Rattle.exchange.specs.Runs.{end_of}
 use Rattle.exchange.specs.Promise.{Foretold, CloseForetells}
 use Rattle.exchange.proofs.Holding.{run_reached, begin_reached}
@@ -27,9 +27,6 @@ use Rattle.exchange.proofs.Holding.{run_reached, begin_reached}
 record Judged (f : Refusal) : Type 0 where
   least : 14 ≤ (told f).number
   most : (told f).number ≤ 17
-
-same_err : {A : Type 0} (f g : Refusal) → ◌≡◌ {A = Answer A} (Err f) (Err g) → f ≡ g
-same_err f g e = cc
 
 -- a test before it was passed
 past_check : {A : Type 0} (b : Bool) (g f : Refusal) (r : Answer A) → (Judged g → ⊥) → Judged f → check b g r ≡ Err f → (b ≡ true) × (r ≡ Err f)
@@ -47,13 +44,7 @@ module _ (room : ℕ) (d : Held) (T : Tables) (V : Signed → Bool) (type n : �
       let b = past_check (sign_fits type n) SignForm f _ (λ x. omega (arith, x.most)) j a.2 in
       let m : Message = signed_as a.0 d.payloads (unsigned type n) in
       let c = past_check (leb (length (encode m)) room) NoRoom f (admitting T (encode m) (rows m)) (λ x. omega (arith, x.most)) j b.1 in
-      let l : Lawful m = record {
-        header = subst HeaderKept a.1 s.header;
-        payloads = s.payloads;
-        sign = unsigned_lawful type n b.0;
-        count = omega (arith, pieces_count m, s.few);
-        size = omega (arith, leb-true _ _ c.0);
-      } in
+      let l = sound_lawful room d a.0 (unsigned type n) most s a.1 (unsigned_lawful type n b.0) (leb-true _ _ c.0) in
       record { header = a.0; has = a.1; reads = rw (read_back m l, c.1) }
 
 abbrev carried : Stage → Answer (Unit {0})

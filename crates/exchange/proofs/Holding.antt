@@ -1,5 +1,5 @@
 -- What a draft holds along a run, and so what is delivered.
-use Rattle.std.proofs.Common.{◌≡◌, ℕ, ◌≤◌, Bool, true, false, eqb, leb, List, [], ◌∷◌, length, Some, None, Ok, Err, Option, sym, refl, ap, ◌∙◌, subst, ap₂, arith, take_at, drop_at}
+use Rattle.std.proofs.Common.{◌≡◌, ℕ, ◌≤◌, Bool, true, false, eqb, List, [], ◌∷◌, length, Some, None, Ok, Err, Option, sym, refl, ap, ◌∙◌, subst, ap₂, arith, take_at, drop_at}
 use Rattle.std.specs.List.{AllByRecursion}
 use Rattle.std.proofs.lemmas.Bool.{eqb-true}
 use Rattle.std.proofs.ByRecursion.{All-take, All-drop}
@@ -8,8 +8,8 @@ use Rattle.wire.specs.Lawful.{Lawful}
 use Rattle.wire.specs.Rows.{rows}
 use Rattle.wire.specs.Answers.{Answer}
 use Rattle.wire.specs.Walking.{walking}
-use Rattle.wire.proofs.Answers.{check_ok, and_then_ok, same_ok}
-use Rattle.wire.proofs.Messages.{read_back, pieces_count}
+use Rattle.wire.proofs.Answers.{same_ok}
+use Rattle.wire.proofs.Messages.{read_back}
 use Rattle.profile.specs.Tables.{Tables}
 use Rattle.profile.specs.Admits.{Admits}
 use Rattle.profile.specs.Admitting.{admitting}
@@ -20,12 +20,12 @@ use Rattle.plain.specs.declared.calls.Reply.{Reply}
 use Rattle.plain.specs.declared.calls.Reply.TheVariants.{Done, Delivered, Released, Refused, Misplaced}
 use Rattle.plain.specs.Drafts.{Held, Sign, Stage, Draft, begin, signed_as, counted, bytes_of, standing, encoded}
 use Rattle.plain.specs.Drafts.Stage.{opened, signing, faulty, released}
-use Rattle.plain.specs.Edits.{header_of, editing}
-use Rattle.plain.specs.Steps.{Step, Turn, sign_fits, unsigned, closing, closed, edited, signed, taken, step, ends}
+use Rattle.plain.specs.Edits.{editing}
+use Rattle.plain.specs.Steps.{Step, Turn, unsigned, closing, closed, edited, signed, taken, step, ends}
 use Rattle.plain.specs.Steps.Step.{edit, close, sign, withdraw, release}
 use Rattle.plain.specs.Turns.{Refusing}
-use Rattle.plain.specs.Kept.{HeaderKept, SignKept, Kept, Widths}
-use Rattle.plain.proofs.Keeping.{header_found, step_kept, begin_kept}
+use Rattle.plain.specs.Kept.{SignKept, Kept, Widths}
+use Rattle.plain.proofs.Keeping.{sound_lawful, closable, step_kept, begin_kept}
 use Rattle.exchange.specs.Runs.{end_of, force, in_force}
 use Rattle.exchange.specs.Promise.{Delivery, Delivering, DeliversWhatItHolds}
 use Rattle.exchange.proofs.Alike.{admits_alike}
@@ -36,13 +36,7 @@ lawful_held room s h g most k e q =
     let m : Message = signed_as h s.held.payloads g in
     let sign = subst (λ o. SignKept o (Some g)) e (subst (SignKept s.held.header) q k.sign) in
     let bytes : encoded s ≡ encode m = ap₂ (λ o x. bytes_of o s.held.payloads x) e q in
-    record {
-      header = subst HeaderKept e k.sound.header;
-      payloads = k.sound.payloads;
-      sign = sign;
-      count = omega (arith, pieces_count m, k.sound.few);
-      size = omega (arith, ap length bytes, k.fits);
-    }
+    sound_lawful room s.held h g most k.sound e sign (omega (arith, ap length bytes, k.fits))
 
 -- while SIGN stands, the message is admitted by the profile in force
 record Admitted (d : Held) (g : Sign) (p : Option Tables) : Type 0 where
@@ -62,13 +56,9 @@ close_ready : (room : ℕ) (d : Held) (T : Tables) (type n : ℕ) (r : Answer (U
     → Ready d (closed type n r) (Some T)
 close_ready room d T type n (Err f) most e k = tt
 close_ready room d T type n (Ok u) most e k =
-    let a = and_then_ok (header_of d.header) _ u e in
-    let has = header_found d.header a.0 a.1 in
-    let m : Message = signed_as a.0 d.payloads (unsigned type n) in
-    let b = check_ok (sign_fits type n) _ _ u a.2 in
-    let c = check_ok (leb (length (encode m)) room) _ (admitting T (encode m) (rows m)) u b.1 in
-    let lawful = lawful_held room (record { held = d; stage = signing (unsigned type n) 0 }) a.0 (unsigned type n) most k has refl in
-    record { tables = T; header = a.0; profile = refl; has = has; admitted = admits_passed T m lawful u c.1 }
+    let a = closable room d (λ m. admitting T (encode m) (rows m)) type n u e in
+    let lawful = lawful_held room (record { held = d; stage = signing (unsigned type n) 0 }) a.header (unsigned type n) most k a.has refl in
+    record { tables = T; header = a.header; profile = refl; has = a.has; admitted = admits_passed T (signed_as a.header d.payloads (unsigned type n)) lawful u a.passed }
 
 sign_ready : (d : Held) (g : Sign) (l : ℕ) (s : List ℕ) (p : Option Tables) (b : Bool) → eqb (length s) (length g.signature) ≡ b → Admitted d g p → Ready (signed d g l s b).draft.held (signed d g l s b).draft.stage p
 sign_ready d g l s p false e a = a

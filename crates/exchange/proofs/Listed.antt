@@ -2,7 +2,7 @@
 use Rattle.std.proofs.Common.{◌≡◌, ℕ, zero, suc, ◌+◌, ◌-◌, ◌*◌, ◌/◌, ◌<◌, ◌≤◌, List, [], ◌∷◌, ◌++◌, length, get_or, take, drop, replicate, sym, refl, ap, ◌∙◌, subst, ap₂, append_assoc, arith, length-append, drop-drop, drop_at}
 use lib.Seq.{get_or_at}
 use Rattle.std.specs.List.{AllByRecursion}
-use Rattle.std.proofs.lemmas.List.{drop-take, take_rest, get_or_append_left, get_or-append-add}
+use Rattle.std.proofs.lemmas.List.{drop-take, take_rest, get_or_append_left, get_or-append-add, get_or-take, length-take-le}
 use Rattle.wire.specs.declared.kind.Kind.TheVariants.{Sign}
 use Rattle.wire.specs.declared.row.Row.{Row}
 use Rattle.wire.specs.declared.row.Walked.{Walked}
@@ -120,34 +120,40 @@ pub record Measured (bytes : List ℕ) (w : Walked) (table : List Row) : Type 0 
   pub span_least : 2 ≤ w.span
   pub span_most : w.span ≤ length bytes
   pub count_least : 1 ≤ w.count
-  pub count_most : w.count ≤ 24
   pub long : w.count ≤ length table
-  pub row : (i : ℕ) (r : Row) → i + 1 < w.count → (1 ≤ (get_or table i r).length) × ((get_or table i r).start + (get_or table i r).length ≤ length bytes)
+  pub others : length (take (w.count - 1) table) ≡ w.count - 1
+  -- of the rows before that of SIGN
+  pub row : (i : ℕ) → i < length (take (w.count - 1) table) → let row : Row = get_or (take (w.count - 1) table) i blank in (1 ≤ row.length) × (row.start + row.length ≤ length bytes)
 
 module _ (m : Message) (bytes : List ℕ) (w : Walked) (before table : List Row) (t : Told m bytes before w table) where
   counts : w.count ≡ length m.payloads + 1
   counts = ap (λ x. x.count) t.numbers ∙ pieces_count m
 
-  pub row_same : (i : ℕ) (r : Row) → i < length m.payloads → get_or table i r ≡ get_or (rows m) i r
-  row_same i r h = ap (λ x. get_or x i r) t.rows ∙ get_or_append_left (rows m) _ r i (omega (arith, rows_count (header_length m) (pieces m), pieces_count m))
+  pub row_same : (i : ℕ) → i < length m.payloads → get_or (take (w.count - 1) table) i blank ≡ get_or (rows m) i blank
+  row_same i h =
+      get_or-take (w.count - 1) table i blank (omega (arith, counts)) ∙ ap (λ x. get_or x i blank) t.rows
+      ∙ get_or_append_left (rows m) _ blank i (omega (arith, rows_count (header_length m) (pieces m), pieces_count m))
 
   measured : Measured bytes w table
   measured =
       let split = ap length (sym t.is) ∙ encode_length m t.lawful.payloads in
       let header = ap (λ x. x.header) t.numbers in
       let spans = ap (λ x. x.span) t.numbers ∙ span_length m t.lawful.payloads in
+      let long : w.count ≤ length table =
+      omega (arith, counts, ap length t.rows, length-append (rows m) (replicate (24 - length (rows m)) blank ++ drop 24 before), rows_count (header_length m) (pieces m), pieces_count m) in
+      let others = length-take-le (w.count - 1) table (omega (arith, long)) in
       record {
         header_least = omega arith;
         header_most = omega arith;
         span_least = omega arith;
         span_most = omega arith;
         count_least = omega (arith, counts);
-        count_most = omega (arith, counts, t.lawful.count, pieces_count m);
-        long = omega (arith, counts, ap length t.rows, length-append (rows m) (replicate (24 - length (rows m)) blank ++ drop 24 before), rows_count (header_length m) (pieces m), pieces_count m);
-        row = λ i r h.
-            let k : i < length m.payloads = omega (arith, counts) in
-            let o = row_told m bytes t.lawful t.is i r (record { kind = Sign; body = [] }) k in
-            rw (row_same i r k) (o.least, o.inside);
+        long = long;
+        others = others;
+        row = λ i h.
+            let k : i < length m.payloads = omega (arith, counts, others) in
+            let o = row_told m bytes t.lawful t.is i blank (record { kind = Sign; body = [] }) k in
+            subst (λ y. (1 ≤ y.length) × (y.start + y.length ≤ length bytes)) (sym (row_same i k)) (o.least, o.inside);
       }
 
 pub measures : {T : Tables} {bytes : List ℕ} {w : Walked} {table : List Row} → Tells T bytes w table → Measured bytes w table
@@ -170,18 +176,18 @@ module _ (T : Tables) (bytes : List ℕ) (w : Walked) (table : List Row) (told :
   pub head_at : (h : Header) (d : Step) → HeaderIn bytes w.header h → edit (head h) ≡ get_or (drafting T m) 0 d
   head_at h d is = ap (λ x. edit (head x)) (is m l e (sym (ap (λ x. x.header) told_of.numbers)))
 
-  pub add_at : (i from to : ℕ) (d : Step) → i + 1 < w.count → let row : Row = get_or table i blank in
+  pub add_at : (i from to : ℕ) (d : Step) → i + 1 < w.count → let row : Row = get_or (take (w.count - 1) table) i blank in
       from ≡ row.start + 1 → to ≡ row.start + row.length → edit (add i row.code (take (to - from) (drop from bytes))) ≡ get_or (drafting T m) (i + 1) d
   add_at i from to d k f t =
       let n : i < length m.payloads = omega (arith, few) in
       let p : Payload = record { kind = Sign; body = [] } in
-      let o = subst (λ y. RowOf bytes y (get_or m.payloads i p)) (sym (row_same m bytes w told.1 table told_of i blank n)) (row_told m bytes l e i blank p n) in
+      let o = subst (λ y. RowOf bytes y (get_or m.payloads i p)) (sym (row_same m bytes w told.1 table told_of i n)) (row_told m bytes l e i blank p n) in
       ap₂ (λ c b. edit (add i c b)) o.code (o.body from to f t) ∙ sym (drafting_add T m d i p n)
 
-  pub close_at : (n : ℕ) (d : Step) → n ≡ w.count → close T (get_or bytes (w.span - 2) 0 / 16) (length bytes - w.span) ≡ get_or (drafting T m) n d
+  pub close_at : (n : ℕ) (d : Step) → n ≡ w.count → close T (get_or bytes (w.span - 2) 0 / 16) (length (take (length bytes - w.span) (drop w.span bytes))) ≡ get_or (drafting T m) n d
   close_at n d k =
       let s = ap (λ y. y.span) told_of.numbers in
-      let long : length bytes - w.span ≡ length m.signature = omega (arith, s, ap length (sym e ∙ split m), length-append (span m) m.signature) in
+      let long = ap length (take_rest bytes w.span ∙ signature_told m bytes l e w.span s) in
       ap₂ (close T) (type_told m bytes l e (w.span - 2) (omega (arith, s, span_length m l.payloads))) long ∙ sym (rw (k ∙ few) (drafting_close T m d))
 
   pub sign_at : (n : ℕ) (d : Step) → n ≡ w.count + 1 → sign (take (length bytes - w.span) (drop w.span bytes)) ≡ get_or (drafting T m) n d

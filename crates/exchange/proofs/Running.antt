@@ -1,5 +1,5 @@
 -- A run of calls, one after the other.
-use Rattle.std.proofs.Common.{◌≡◌, ℕ, ◌+◌, ◌-◌, ◌<◌, ◌≤◌, min, List, [], ◌∷◌, ◌++◌, length, get_or, take, drop, set, replicate, sym, refl, ap, ◌∙◌, subst, ap₂, append_assoc, append-nil, arith}
+use Rattle.std.proofs.Common.{◌≡◌, ℕ, ◌+◌, ◌<◌, ◌≤◌, min, List, [], ◌∷◌, ◌++◌, length, get_or, take, drop, set, sym, refl, ap, ◌∙◌, subst, ap₂, append_assoc, append-nil, arith}
 use Rattle.std.specs.List.{AllByRecursion}
 use Rattle.std.proofs.lemmas.List.{at_drop_more, at_drop_all, take_all, drop_all, take_more_set, length-map, get_or-map, length-take, same_lists, places}
 use Rattle.std.proofs.ByRecursion.{All-more}
@@ -10,14 +10,8 @@ use Rattle.plain.specs.Drafts.{Draft, begin, counted, encoded, image}
 use Rattle.plain.specs.Steps.{Step, called, step, replies, ends}
 use Rattle.plain.specs.Kept.{Widths}
 use Rattle.plain.specs.Turns.{Turns}
-use Rattle.plain.proofs.Turning.{image_long, image_past}
+use Rattle.plain.proofs.Turning.{image_long, image_past, image_same}
 use Rattle.exchange.specs.Runs.{steps_of, end_of, replies_of, Runs}
-
--- only how many bytes count, and those past them, matter of a buffer
-image_same : (a b : List ℕ) (s : Draft) → length a ≡ length b → drop (counted b) a ≡ drop (counted b) b → image a s ≡ image b s
-image_same a b s l p =
-    let n : counted a ≡ counted b = omega arith in
-    ap (λ k. encoded s ++ (replicate (k - length (encoded s)) 0 ++ drop k a)) n ∙ ap (λ x. encoded s ++ (replicate (counted b - length (encoded s)) 0 ++ x)) p
 
 -- i calls are made: what is left leads to the draft of all
 pub record Reached (buffer : List ℕ) (cs : List Step) (i : ℕ) (s : Draft) (bytes : List ℕ) : Type 0 where

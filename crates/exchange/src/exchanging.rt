@@ -35,7 +35,7 @@ pub fn exchange<P: Profile, S: Profile, V: Verifier>(
     ensures exchanges { Exchanges (steps_of P.Profile.tables (take (length replies.old) calls.now)) (S.Profile.tables station.now) (V.passing verifier.now) buffer.old buffer.new replies.old replies.new rows.old rows.new archive.old archive.new result }
 {
     let length = run(buffer, calls, replies);
-    let message = &buffer[0..length];
+    let message = &buffer[..length];
     let read = read(message, rows, station, verifier);
     let again = redraft(message, station, verifier, archive);
     Exchanged {

@@ -7,10 +7,11 @@ use drafter::begin;
 use plain::Head;
 use profile::Profile;
 use reader::read;
+use std::ops::Range;
 use verifier::Verifier;
-use wire::{Refusal, Row, Walked, octets};
+use wire::{MOST_PAYLOADS, Refusal, Row, Walked};
 
-// The header of a message, which is so long.
+// The header in the first `header` bytes of a message.
 fn head_of<'a>(message: &'a [u8], header: usize) -> Head<'a>
     requires least { 10 ≤ header }
     requires inside { header ≤ length message.now }
@@ -42,31 +43,15 @@ fn draft_again<'a, P: Profile>(
     let last = walked.count - 1;
     let mut open = begin(buffer);
     let _ = open.head(&head_of(message, walked.header));
-    for i in 0..last {
-        let row = rows[i];
-        let start = row.start as usize;
-        let end = start + row.length as usize;
+    for (i, row) in rows[..last].iter().enumerate() {
+        let Range { start, end } = row.range();
         let _ = open.add(i, row.code, &message[start + 1..end]);
     }
     let sign_type = message[walked.span - 2] / 16;
-    let mut out = open.close(profile, sign_type, message.len() - walked.span);
-    let _ = out.sign(&message[walked.span..message.len()]);
+    let signature = &message[walked.span..];
+    let mut out = open.close(profile, sign_type, signature.len());
+    let _ = out.sign(signature);
     out.release()
-}
-
-fn drafted<P: Profile>(
-    message: &[u8],
-    rows: &[Row],
-    walked: &Walked,
-    profile: &P,
-    buffer: &mut [u8],
-) -> usize
-    requires told { Tells (P.tables profile.now) message.now walked.now rows.now }
-    requires room { length message.now ≤ length buffer.old }
-    ensures { Drafts (P.tables profile.now) message.now buffer.old buffer.new result }
-{
-    let (length, _buffer) = draft_again(message, rows, walked, profile, buffer);
-    length
 }
 
 // Reads a message under a profile and a verifier and drafts it again from its own records, in the buffer. Answers its length.
@@ -79,11 +64,11 @@ pub fn redraft<P: Profile, V: Verifier>(
 ) -> Result<usize, Refusal>
     ensures { Redrafts (P.tables profile.now) (V.passing verifier.now) message.now buffer.old buffer.new result }
 {
-    octets(message);
-    let mut rows = [Row::BLANK; 24];
+    let mut rows = [Row::BLANK; MOST_PAYLOADS];
     let walked = read(message, &mut rows, profile, verifier)?;
     if buffer.len() < message.len() {
         return Err(Refusal::NoRoom);
     }
-    Ok(drafted(message, &rows, &walked, profile, buffer))
+    let (length, _buffer) = draft_again(message, &rows, &walked, profile, buffer);
+    Ok(length)
 }

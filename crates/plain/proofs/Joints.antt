@@ -1,6 +1,8 @@
 -- The encoding of payloads on both sides of a position, and the byte that names what follows.
-use Rattle.std.proofs.Common.{◌≡◌, ℕ, ◌+◌, ◌<◌, List, [], ◌∷◌, ◌++◌, length, get_or, set, sym, refl, ap, ◌∙◌, ap₂, append_assoc, arith, length-append}
-use Rattle.std.proofs.lemmas.List.{set_at, get_or-set_same}
+use Rattle.std.proofs.Common.{◌≡◌, ℕ, ◌+◌, ◌<◌, List, [], ◌∷◌, ◌++◌, length, get_or, take, drop, set, sym, refl, ap, ◌∙◌, ap₂, append_assoc, add-one, arith, length-append, take-append-drop}
+use Rattle.std.specs.List.{remove}
+use Rattle.std.proofs.lemmas.List.{set_at, get_or-set_same, drop_more}
+use Rattle.wire.specs.declared.kind.Kind.TheVariants.{T}
 use Rattle.wire.specs.Kinds.{code_of}
 use Rattle.wire.specs.Messages.{Header, Payload, first, header_bytes, payloads_bytes, front}
 
@@ -20,6 +22,9 @@ front_append end h ps qs =
     ap₂ (λ c x. header_bytes c h ++ x) (first_append end ps qs) (payloads_append end ps qs)
     ∙ sym (append_assoc (header_bytes (first (first end qs) ps) h) (payloads_bytes (first end qs) ps) (payloads_bytes end qs))
 
+abbrev pub nothing : Payload
+nothing = record { kind = T; body = [] }
+
 -- how long payloads are, each with its next-payload byte
 unfoldable pub lengths : List Payload → ℕ
 lengths [] = 0
@@ -33,6 +38,22 @@ lengths_append (p ∷ ps) qs = omega (arith, lengths_append ps qs)
 pub lengths_one : (p : Payload) → lengths (p ∷ []) ≡ 1 + length p.body
 unfolding lengths
 lengths_one p = omega arith
+
+-- the payload at a position, between those before and behind it
+pub cut_at : (ps : List Payload) (i : ℕ) → i < length ps → ps ≡ take i ps ++ (get_or ps i nothing ∷ drop (i + 1) ps)
+cut_at ps i h = sym (take-append-drop i ps) ∙ ap (λ x. take i ps ++ x) (drop_more ps i nothing h)
+
+pub lengths_cut : (ps : List Payload) (i : ℕ) → i < length ps → lengths ps ≡ lengths (take i ps) + (1 + length (get_or ps i nothing).body) + lengths (drop (i + 1) ps)
+lengths_cut ps i h =
+    let q : Payload = get_or ps i nothing in
+    omega (arith, ap lengths (cut_at ps i h), lengths_append (take i ps) (q ∷ drop (i + 1) ps), lengths_append (q ∷ []) (drop (i + 1) ps), lengths_one q)
+
+-- and without it
+pub removed_is : (ps : List Payload) (i : ℕ) → remove ps i ≡ take i ps ++ drop (i + 1) ps
+removed_is ps i = ap (λ k. take i ps ++ drop k ps) (sym (add-one i))
+
+pub lengths_removed : (ps : List Payload) (i : ℕ) → lengths (remove ps i) ≡ lengths (take i ps) + lengths (drop (i + 1) ps)
+lengths_removed ps i = ap lengths (removed_is ps i) ∙ lengths_append (take i ps) (drop (i + 1) ps)
 
 pub payloads_long : (end : ℕ) (ps : List Payload) → length (payloads_bytes end ps) ≡ lengths ps
 unfolding lengths

@@ -1,16 +1,18 @@
 -- Every call keeps the records lawful and within the counted bytes.
-use Rattle.std.proofs.Common.{◌≡◌, ℕ, zero, suc, ◌<◌, ◌≤◌, Bool, true, false, eqb, ltb, leb, List, [], ◌∷◌, length, take, set, replicate, Some, None, Ok, Err, Option, sym, refl, ap, subst, arith, length-set}
+use Rattle.std.proofs.Common.{◌≡◌, ℕ, zero, suc, ◌<◌, ◌≤◌, Bool, true, false, eqb, ltb, leb, List, length, take, set, replicate, Some, None, Ok, Err, Option, sym, refl, ap, subst, arith, length-set}
 use lib.ListN.{length-replicate}
 use Rattle.std.specs.List.{insert, remove as removed, AllByRecursion}
 use Rattle.std.proofs.lemmas.Bool.{leb-true, ltb-true, eqb-true, and_parts}
 use Rattle.std.proofs.ByRecursion.{All-append, All-take, All-drop, All-set}
 use Rattle.std.proofs.lemmas.List.Edits.{length-insert, length-remove}
+use Rattle.wire.specs.declared.refusal.Refusal.TheVariants.{SignForm, NoRoom}
 use Rattle.wire.specs.Octets.{Octets}
 use Rattle.wire.specs.Messages.{Header, Payload, Message, encode}
-use Rattle.wire.specs.Lawful.{LawfulPayload, LawfulSign}
+use Rattle.wire.specs.Lawful.{Lawful, LawfulPayload, LawfulSign}
 use Rattle.wire.specs.Rows.{rows}
-use Rattle.wire.specs.Answers.{Answer}
+use Rattle.wire.specs.Answers.{Answer, check, and_then}
 use Rattle.wire.proofs.Answers.{check_ok, and_then_ok, same_ok, never_ok}
+use Rattle.wire.proofs.Messages.{pieces_count}
 use Rattle.wire.proofs.Tiling.{encode_length}
 use Rattle.profile.specs.Tables.{Tables}
 use Rattle.profile.specs.Admitting.{admitting}
@@ -23,7 +25,7 @@ use Rattle.plain.specs.Steps.{Step, sign_fits, unsigned, closing, closed, edited
 use Rattle.plain.specs.Steps.Step.{edit, close, sign, withdraw, release}
 use Rattle.plain.specs.Kept.{HeaderKept, SignKept, Sound, Kept, EditWidths, Widths}
 use Rattle.plain.proofs.Offers.{map_lawful, offered_lawful}
-use Rattle.plain.proofs.Joints.{lengths, front_long}
+use Rattle.plain.proofs.Joints.{lengths_cut, lengths_removed, front_long}
 
 pub header_found : (o : Option Header) (h : Header) → header_of o ≡ Ok h → o ≡ Some h
 header_found None h e = absurd (never_ok _ h e)
@@ -45,16 +47,9 @@ fitting_sound counted o h ps e q some header payloads few =
       fits = leb-true _ _ c.0;
     })
 
-lengths_removed : (ps : List Payload) (i : ℕ) → lengths (removed ps i) ≤ lengths ps
-unfolding lengths
-lengths_removed [] zero = omega arith
-lengths_removed [] (suc i) = omega arith
-lengths_removed (p ∷ ps) zero = omega arith
-lengths_removed (p ∷ ps) (suc i) = omega (arith, lengths_removed ps i)
-
-bytes_removed : (o : Option Header) (ps : List Payload) (i : ℕ) → length (bytes_of o (removed ps i) None) ≤ length (bytes_of o ps None)
-bytes_removed None ps i = omega arith
-bytes_removed (Some h) ps i = omega (arith, front_long 0 h (removed ps i), front_long 0 h ps, lengths_removed ps i)
+bytes_removed : (o : Option Header) (ps : List Payload) (i : ℕ) → i < length ps → length (bytes_of o (removed ps i) None) ≤ length (bytes_of o ps None)
+bytes_removed None ps i l = omega arith
+bytes_removed (Some h) ps i l = omega (arith, front_long 0 h (removed ps i), front_long 0 h ps, lengths_cut ps i l, lengths_removed ps i)
 
 -- an edit of sound records gives sound records
 module _ (counted : ℕ) (d e : Held) (s : Sound counted d) where
@@ -98,7 +93,7 @@ module _ (counted : ℕ) (d e : Held) (s : Sound counted d) where
         headed = λ z. omega (arith, s.headed z);
         payloads = All-append LawfulPayload (take i d.payloads) _ (All-take LawfulPayload i d.payloads s.payloads) (All-drop LawfulPayload (suc i) d.payloads s.payloads);
         few = omega (arith, s.few);
-        fits = omega (arith, s.fits, bytes_removed d.header d.payloads i);
+        fits = omega (arith, s.fits, bytes_removed d.header d.payloads i (ltb-true _ _ b.0));
       })
 
   pub editing_sound : (x : Edit) → EditWidths x → editing counted d x ≡ Ok e → Sound counted e
@@ -124,6 +119,17 @@ unsigned_lawful type n e =
       octets = zeros n;
     }
 
+-- the message of such records and a SIGN that fits is lawful
+pub sound_lawful : (counted : ℕ) (d : Held) (h : Header) (g : Sign) → counted ≤ 8192 → Sound counted d → d.header ≡ Some h → LawfulSign g.type g.signature
+    → length (encode (signed_as h d.payloads g)) ≤ counted → Lawful (signed_as h d.payloads g)
+sound_lawful counted d h g most s e l fits = record {
+  header = subst HeaderKept e s.header;
+  payloads = s.payloads;
+  sign = l;
+  count = omega (arith, pieces_count (signed_as h d.payloads g), s.few);
+  size = omega arith;
+}
+
 -- a draft with such records
 pub open_kept : (counted : ℕ) (d : Held) → Sound counted d → Kept counted (record { held = d; stage = opened })
 open_kept counted d s = record { sound = s; sign = tt; fits = s.fits }
@@ -135,19 +141,33 @@ faulty_kept counted d g e s = record {
   fits = subst (λ x. length (bytes_of d.header d.payloads x) ≤ counted) (sym e) s.fits;
 }
 
+-- what a close passes: a header, SIGN's own numbers, room, and then the last test of the message with SIGN
+pub record Closable (counted : ℕ) (d : Held) (last : Message → Answer (Unit {0})) (type n : ℕ) (u : Unit {0}) : Type 0 where
+  pub header : Header
+  pub has : d.header ≡ Some header
+  pub form : sign_fits type n ≡ true
+  pub fits : leb (length (encode (signed_as header d.payloads (unsigned type n)))) counted ≡ true
+  pub passed : last (signed_as header d.payloads (unsigned type n)) ≡ Ok u
+
+pub closable : (counted : ℕ) (d : Held) (last : Message → Answer (Unit {0})) (type n : ℕ) (u : Unit {0})
+    → and_then (header_of d.header) (λ h. let m : Message = signed_as h d.payloads (unsigned type n) in check (sign_fits type n) SignForm (check (leb (length (encode m)) counted) NoRoom (last m))) ≡ Ok u
+    → Closable counted d last type n u
+closable counted d last type n u e =
+    let a = and_then_ok (header_of d.header) _ u e in
+    let b = check_ok (sign_fits type n) _ _ u a.2 in
+    let m : Message = signed_as a.0 d.payloads (unsigned type n) in
+    let c = check_ok (leb (length (encode m)) counted) _ (last m) u b.1 in
+    record { header = a.0; has = header_found d.header a.0 a.1; form = b.0; fits = c.0; passed = c.1 }
+
 close_kept : (counted : ℕ) (d : Held) (T : Tables) (type n : ℕ) → Sound counted d → (r : Answer (Unit {0})) → closing counted d T type n ≡ r
     → Kept counted (record { held = d; stage = closed type n r })
 close_kept counted d T type n s (Err f) e = faulty_kept counted d (faulty f) refl s
 close_kept counted d T type n s (Ok u) e =
-    let a = and_then_ok (header_of d.header) _ u e in
-    let h = header_found d.header a.0 a.1 in
-    let b = check_ok (sign_fits type n) _ _ u a.2 in
-    let m : Message = signed_as a.0 d.payloads (unsigned type n) in
-    let c = check_ok (leb (length (encode m)) counted) _ (admitting T (encode m) (rows m)) u b.1 in
+    let a = closable counted d (λ m. admitting T (encode m) (rows m)) type n u e in
     record {
       sound = s;
-      sign = subst (λ x. SignKept x (Some (unsigned type n))) (sym h) (unsigned_lawful type n b.0);
-      fits = subst (λ x. length (bytes_of x d.payloads (Some (unsigned type n))) ≤ counted) (sym h) (leb-true _ _ c.0);
+      sign = subst (λ x. SignKept x (Some (unsigned type n))) (sym a.has) (unsigned_lawful type n a.form);
+      fits = subst (λ x. length (bytes_of x d.payloads (Some (unsigned type n))) ≤ counted) (sym a.has) (leb-true _ _ a.fits);
     }
 
 -- a message with another signature of the same length is as long

@@ -76,6 +76,12 @@ image_long buffer s f =
     let past : List ℕ = drop (counted buffer) buffer in
     omega (arith, length-append (encoded s) (zeros ++ past), length-append zeros past, length-replicate {A = ℕ} (counted buffer - length (encoded s)) 0, length-drop (counted buffer) buffer)
 
+-- only how many bytes count, and those past them, matter of a buffer
+pub image_same : (a b : List ℕ) (s : Draft) → length a ≡ length b → drop (counted b) a ≡ drop (counted b) b → image a s ≡ image b s
+image_same a b s l p =
+    let n : counted a ≡ counted b = omega arith in
+    ap (λ k. encoded s ++ (replicate (k - length (encoded s)) 0 ++ drop k a)) n ∙ ap (λ x. encoded s ++ (replicate (counted b - length (encoded s)) 0 ++ x)) p
+
 pub turns : (c : Step) (before after : Draft) (buffer left : List ℕ) (reply : Reply) → reply ≡ (step (counted buffer) before c).reply → after ≡ (step (counted buffer) before c).draft
     → left ≡ image buffer after → buffer ≡ image buffer before → length (encoded after) ≤ counted buffer → Turns c before after buffer left reply
 turns c before after buffer left reply answer draft bytes was fits = record {

@@ -1,4 +1,7 @@
 // The calls on a draft, and what each answers.
+ghost use Rattle.std.specs.Prelude.{◌≡◌};
+ghost use Rattle.plain.specs.Turns.{settled, delivering};
+
 use wire::Refusal;
 
 // A header, as head is given it.
@@ -11,7 +14,7 @@ pub struct Head<'a> {
     pub map_info: &'a [u8],
 }
 
-// A body is all of a payload behind its next-payload byte.
+// A body is all of a payload behind its next-payload byte. A code is a byte that may name no kind, which is a refusal of its own.
 #[derive_where(Clone, Copy)]
 pub enum Call<'a, P> {
     Head(Head<'a>),
@@ -38,7 +41,7 @@ pub enum Call<'a, P> {
     Release,
 }
 
-// A call that the state of the draft does not take is misplaced.
+// A call that the state of the draft does not take is misplaced, which is neither an answer nor a refusal: so this is no Result.
 #[derive(Clone, Copy, PartialEq, Eq, Debug)]
 pub enum Reply {
     Done,
@@ -46,4 +49,28 @@ pub enum Reply {
     Released(usize),
     Refused(Refusal),
     Misplaced,
+}
+
+// What an edit answers, as a reply.
+impl From<Result<(), Refusal>> for Reply {
+    ghost from_gives = { λ answer reply. reply ≡ settled answer };
+
+    fn from(answer: Result<(), Refusal>) -> Reply {
+        match answer {
+            Ok(()) => Reply::Done,
+            Err(refusal) => Reply::Refused(refusal),
+        }
+    }
+}
+
+// What sign answers, as a reply.
+impl From<Result<usize, Refusal>> for Reply {
+    ghost from_gives = { λ answer reply. reply ≡ delivering answer };
+
+    fn from(answer: Result<usize, Refusal>) -> Reply {
+        match answer {
+            Ok(length) => Reply::Delivered(length),
+            Err(refusal) => Reply::Refused(refusal),
+        }
+    }
 }

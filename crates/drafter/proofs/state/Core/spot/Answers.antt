@@ -1,7 +1,7 @@
-use Rattle.std.proofs.Common.{◌≡◌, ◌-◌, take, ap, ◌∙◌, arith}
-use Rattle.drafter.specs.Spots.{spot_at}
+use Rattle.std.proofs.Common.{◌<◌, ◌≤◌, sym, subst, arith}
+use Rattle.drafter.specs.declared.spot.Spot.{Spot}
 use Rattle.drafter.proofs.Asking.{with_header}
-use Rattle.drafter.proofs.Located.{located_within, records_few}
+use Rattle.drafter.proofs.Located.{located_within, records_few, spot_bounds}
 use Rattle.drafter.proofs.state.Core.spot.Goals as goal
 
 pub find-requires : goal.find-requires
@@ -9,14 +9,10 @@ find-requires c =
     let s = c.args.self.now in
     let w = c.requires.draft in
     let h = with_header s w (omega arith) in
-    let z : s.end - 0 ≡ s.end = omega arith in
-    record {
-      few = rw z (records_few s w);
-      there = λ i l. rw z (located_within s w h.0 h.1 i (omega arith));
-    }
+    record { few = records_few s w; there = λ i l. located_within s w h.0 h.1 i (omega arith) }
 
-pub returns : goal.returns
-returns c =
+pub returns-clause-within : goal.returns-clause-within
+returns-clause-within c =
     let s = c.args.self.now in
-    let z : s.end - 0 ≡ s.end = omega arith in
-    c.find.ensures ∙ ap (λ n. spot_at s.header c.args.position (take n s.buffer.now)) z
+    let h = with_header s c.requires.draft (omega arith) in
+    subst (λ (x : Spot). (x.naming < x.at) × (x.at ≤ s.end)) (sym c.find.ensures) (spot_bounds s c.requires.draft h.0 h.1 c.args.position (omega arith))

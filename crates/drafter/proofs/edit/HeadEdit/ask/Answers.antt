@@ -1,0 +1,10 @@
+use Rattle.std.proofs.Common.{rules}
+use Rattle.plain.specs.Steps.{headed}
+use Rattle.drafter.proofs.Heading.{header_within, head_told}
+use Rattle.drafter.proofs.edit.HeadEdit.ask.Goals as goal
+
+pub overflow_sub-room : goal.overflow_sub-room
+overflow_sub-room c = header_within c.args.core.now c.requires
+
+pub returns : goal.returns
+returns c = head_told c.args.core.now c.requires (headed c.args.self.now) (search rules)
