@@ -1,19 +1,22 @@
 // A line of the script.
-ghost use Rattle.std.specs.Prelude.{◌≤◌, IfSome};
+use num_traits::Num;
+use plain::Head;
 
-// What a line asks for. Bytes are still spelled in hexadecimal.
+// The buffer that a begin asks for.
+#[derive(Clone, Copy)]
+pub struct Room {
+    pub length: usize,
+    pub fill: u8,
+}
+
+// What a line asks for. Bytes are still spelled in hexadecimal and a profile is a name, so that this is no `Call`: that one lends both.
 #[derive(Clone, Copy)]
 pub enum Line<'a> {
     Blank,
-    Begin {
-        length: usize,
-        fill: u8,
-    },
+    Begin(Room),
+    // A header without its map info; and its map info, still spelled.
     Head {
-        byte3: u8,
-        csb: u32,
-        cs: u8,
-        map_type: u8,
+        head: Head<'a>,
         map_info: &'a str,
     },
     Add {
@@ -44,18 +47,15 @@ impl<'a> Line<'a> {
     pub fn spelled(&self) -> &'a str {
         match *self {
             Line::Head { map_info, .. } => map_info,
-            Line::Add { body, .. } => body,
-            Line::Replace { body, .. } => body,
+            Line::Add { body, .. } | Line::Replace { body, .. } => body,
             Line::Sign(signature) => signature,
             _ => "-",
         }
     }
 }
 
-// The digits of a number and their base: `0x` marks hexadecimal. No sign.
-fn digits(word: &str) -> Option<(&str, u32)>
-    ensures { IfSome result (λ d. (2 ≤ d.1) × (d.1 ≤ 36)) }
-{
+// A number, in hexadecimal behind `0x` and else in decimal. No sign.
+fn number<N: Num>(word: &str) -> Option<N> {
     let (digits, base) = match word.strip_prefix("0x") {
         Some(digits) => (digits, 16),
         None => (word, 10),
@@ -63,72 +63,56 @@ fn digits(word: &str) -> Option<(&str, u32)>
     if digits.starts_with('+') {
         return None;
     }
-    Some((digits, base))
+    N::from_str_radix(digits, base).ok()
 }
 
-fn byte(word: &str) -> Option<u8> {
-    let (digits, base) = digits(word)?;
-    u8::from_str_radix(digits, base).ok()
-}
-
-fn word32(word: &str) -> Option<u32> {
-    let (digits, base) = digits(word)?;
-    u32::from_str_radix(digits, base).ok()
-}
-
-fn size(word: &str) -> Option<usize> {
-    let (digits, base) = digits(word)?;
-    usize::from_str_radix(digits, base).ok()
-}
-
-// None where it is no call.
+// None where it is no call. A comment may stand behind the last word.
 pub fn parse(text: &str) -> Option<Line<'_>> {
     let mut words = text.split_whitespace();
     let first = match words.next() {
-        Some(word) => word,
-        None => return Some(Line::Blank),
+        Some(word) if !word.starts_with('#') => word,
+        _ => return Some(Line::Blank),
     };
-    if first.starts_with('#') {
-        return Some(Line::Blank);
-    }
     let line = match first {
-        "begin" => Line::Begin {
-            length: size(words.next()?)?,
-            fill: byte(words.next()?)?,
-        },
+        "begin" => Line::Begin(Room {
+            length: number(words.next()?)?,
+            fill: number(words.next()?)?,
+        }),
         "head" => Line::Head {
-            byte3: byte(words.next()?)?,
-            csb: word32(words.next()?)?,
-            cs: byte(words.next()?)?,
-            map_type: byte(words.next()?)?,
+            head: Head {
+                byte3: number(words.next()?)?,
+                csb: number(words.next()?)?,
+                cs: number(words.next()?)?,
+                map_type: number(words.next()?)?,
+                map_info: &[],
+            },
             map_info: words.next()?,
         },
         "add" => Line::Add {
-            position: size(words.next()?)?,
-            code: byte(words.next()?)?,
+            position: number(words.next()?)?,
+            code: number(words.next()?)?,
             body: words.next()?,
         },
         "replace" => Line::Replace {
-            position: size(words.next()?)?,
-            code: byte(words.next()?)?,
+            position: number(words.next()?)?,
+            code: number(words.next()?)?,
             body: words.next()?,
         },
         "remove" => Line::Remove {
-            position: size(words.next()?)?,
+            position: number(words.next()?)?,
         },
         "close" => Line::Close {
             profile: words.next()?,
-            sign_type: byte(words.next()?)?,
-            length: size(words.next()?)?,
+            sign_type: number(words.next()?)?,
+            length: number(words.next()?)?,
         },
         "sign" => Line::Sign(words.next()?),
         "withdraw" => Line::Withdraw,
         "release" => Line::Release,
         _ => return None,
     };
-    match words.next() {
-        None => Some(line),
-        Some(word) if word.starts_with('#') => Some(line),
-        Some(_) => None,
-    }
+    words
+        .next()
+        .is_none_or(|word| word.starts_with('#'))
+        .then_some(line)
 }

@@ -1,40 +1,40 @@
 // The profile that a close is given by name.
-use profile::{Choice, Fixed, Sheet};
-use std::io::Read;
+use crate::fault::Fault;
+use profile::{Choice, Sheet};
 use std::{fs, io};
+use thiserror::Error;
+use wire::Refusal;
 
-fn text_of(rt: &HostRuntime, file: &str) -> io::Result<Vec<u8>> {
-    let mut text = Vec::new(rt.alloc());
-    fs::open(rt, file)?.read_to_end(&mut text)?;
-    Ok(text)
+// Why there is no such sheet.
+#[derive(Debug, Drop, Error)]
+enum NoSheet {
+    #[error(transparent)]
+    Refused(#[from] Refusal),
+    #[error(transparent)]
+    Unreadable(#[from] io::Error),
 }
 
-// None where there is no such sheet; standard error tells why.
-fn sheet(rt: &HostRuntime, file: &str) -> io::Result<Option<Choice>> {
-    match text_of(rt, file) {
-        Ok(text) => match Sheet::parse(&text) {
-            Ok(sheet) => Ok(Some(Choice::Sheet(sheet))),
-            Err(refusal) => {
-                eprintln!(rt; "{file}: {refusal}")?;
-                Ok(None)
-            }
-        },
-        Err(error) => {
-            eprintln!(rt; "{file}: {error}")?;
-            Ok(None)
+// The program verdict reads a sheet by two lines of its own too: it tells a fault in other words, and programs share no crate.
+fn sheet(rt: &HostRuntime, file: &str) -> Result<Sheet, NoSheet> {
+    let text = fs::read(rt, file)?;
+    Ok(Sheet::parse(&text)?)
+}
+
+// The sheet of a file; standard error tells why there is none.
+fn sheet_of(rt: &HostRuntime, file: &str) -> Result<Choice, Fault> {
+    match sheet(rt, file) {
+        Ok(sheet) => Ok(Choice::Sheet(sheet)),
+        Err(why) => {
+            eprintln!(rt; "{file}: {why}")?;
+            Err(Fault::NoCall)
         }
     }
 }
 
-// A fixed profile, or the sheet of a file. None where there is no such profile.
-pub fn profile_of(rt: &HostRuntime, name: &str) -> io::Result<Option<Choice>> {
-    match name {
-        "csk" => Ok(Some(Choice::Fixed(Fixed::Csk))),
-        "pck" => Ok(Some(Choice::Fixed(Fixed::Pck))),
-        "gmk" => Ok(Some(Choice::Fixed(Fixed::Gmk))),
-        _ => match name.strip_prefix("sheet:") {
-            Some(file) => sheet(rt, file),
-            None => Ok(None),
-        },
+// A fixed profile, or the sheet of a file.
+pub fn profile_of(rt: &HostRuntime, name: &str) -> Result<Choice, Fault> {
+    if let Ok(fixed) = name.parse() {
+        return Ok(Choice::Fixed(fixed));
     }
+    sheet_of(rt, name.strip_prefix("sheet:").ok_or(Fault::NoCall)?)
 }

@@ -4,10 +4,10 @@
 use std::io;
 use std::io::Read;
 use walk::walk;
-use wire::{Refusal, Row};
+use wire::{LONGEST, MOST_PAYLOADS, Refusal, Row};
 
 // One byte more than the longest message, so that a longer one is refused for its length.
-const ENOUGH: u64 = 8193;
+const ENOUGH: u64 = LONGEST as u64 + 1;
 
 fn input(rt: &HostRuntime) -> io::Result<Vec<u8>> {
     let mut bytes = Vec::new(rt.alloc());
@@ -15,9 +15,9 @@ fn input(rt: &HostRuntime) -> io::Result<Vec<u8>> {
     Ok(bytes)
 }
 
-fn list(rt: &HostRuntime, rows: &[Row], count: usize) -> io::Result<()> {
+fn list(rt: &HostRuntime, rows: &[Row]) -> io::Result<()> {
     println!(rt; "code slot start length")?;
-    for row in rows.iter().take(count) {
+    for row in rows {
         let Row {
             code,
             slot,
@@ -31,19 +31,16 @@ fn list(rt: &HostRuntime, rows: &[Row], count: usize) -> io::Result<()> {
 
 fn refuse(rt: &HostRuntime, refusal: Refusal) -> io::Result<()> {
     let told = refusal.told();
-    let number = told.number;
-    let place = told.place;
-    let detail = told.detail;
     println!(rt; "number place detail")?;
-    println!(rt; "{number} {place} {detail}")?;
+    println!(rt; "{told}")?;
     eprintln!(rt; "refused: {refusal}")
 }
 
 fn main(rt: HostRuntime) -> io::Result<()> {
     let message = input(&rt)?;
-    let mut rows = [Row::BLANK; 24];
+    let mut rows = [Row::BLANK; MOST_PAYLOADS];
     match walk(&message, &mut rows) {
-        Ok(walked) => list(&rt, &rows, walked.count),
+        Ok(walked) => list(&rt, &rows[..walked.count]),
         Err(refusal) => refuse(&rt, refusal),
     }
 }

@@ -17,20 +17,11 @@ pub struct Arguments<'a> {
 }
 
 // What was given so far.
-#[derive(Clone, Copy)]
+#[derive(Clone, Copy, Default)]
 struct Options<'a> {
     rules: Option<Rules<'a>>,
     key: Option<u64>,
     trust: Option<&'a str>,
-}
-
-fn fixed(name: &str) -> Option<Rules<'_>> {
-    match name {
-        "csk" => Some(Rules::Fixed(Fixed::Csk)),
-        "pck" => Some(Rules::Fixed(Fixed::Pck)),
-        "gmk" => Some(Rules::Fixed(Fixed::Gmk)),
-        _ => None,
-    }
 }
 
 // 16 hexadecimal digits.
@@ -47,7 +38,7 @@ impl<'a> Options<'a> {
         let mut options = self;
         match name {
             "--profile" if self.rules.is_none() => {
-                options.rules = Some(fixed(value)?);
+                options.rules = Some(Rules::Fixed(value.parse().ok()?));
             }
             "--sheet" if self.rules.is_none() => {
                 options.rules = Some(Rules::Sheet(value));
@@ -66,23 +57,21 @@ impl<'a> Options<'a> {
 
 // None where the words are not as the usage has them.
 pub fn parse(words: &[String]) -> Option<Arguments<'_>> {
-    let mut options = Options {
-        rules: None,
-        key: None,
-        trust: None,
-    };
-    let mut at = 0;
-    while at + 1 < words.len() && words[at].starts_with("--") {
-        options = options.with(words[at].as_str(), words[at + 1].as_str())?;
-        at += 2;
+    let mut options = Options::default();
+    let mut files = words;
+    while let [name, value, rest @ ..] = files
+        && name.starts_with("--")
+    {
+        options = options.with(name, value)?;
+        files = rest;
     }
-    if at >= words.len() {
+    if files.is_empty() {
         return None;
     }
     Some(Arguments {
         rules: options.rules?,
         key: options.key?,
         trust: options.trust,
-        files: &words[at..],
+        files,
     })
 }

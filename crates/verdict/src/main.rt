@@ -2,20 +2,22 @@
 #![tactic(auto)]
 
 mod arguments;
+mod fault;
 mod trust;
 
-use anyhow::anyhow;
+use anyhow::bail;
 use arguments::{Arguments, Rules, parse};
+use fault::Fault;
 use profile::{Choice, Sheet};
 use reader::read;
 use std::io::Read;
 use std::{env, fs, io};
 use trust::enter_all;
 use verifier::{KeyTag, TrustList, Verifier};
-use wire::{Refusal, Row};
+use wire::{LONGEST, MOST_PAYLOADS, Row, Walked};
 
 // One byte more than the longest message, so that a longer one is refused for its length.
-const ENOUGH: u64 = 8193;
+const ENOUGH: u64 = LONGEST as u64 + 1;
 
 const USAGE: &str =
     "usage: verdict (--profile csk|pck|gmk | --sheet FILE) --key HEX [--trust FILE] MESSAGE..
@@ -25,41 +27,44 @@ const USAGE: &str =
   --trust    the signers that are trusted, one a line; any signer without it
 prints a line for each message file: FILE ok COUNT HEADER SPAN, or FILE refused NUMBER PLACE DETAIL and why";
 
-// A line for a file that is refused, with what the caller has to add.
-fn refused(rt: &HostRuntime, file: &str, refusal: Refusal, more: &str) -> io::Result<()> {
-    let told = refusal.told();
-    let number = told.number;
-    let place = told.place;
-    let detail = told.detail;
-    println!(rt; "{file} refused {number} {place} {detail} {refusal}{more}")
-}
-
-fn unreadable(rt: &HostRuntime, file: &str, error: io::Error) -> io::Result<()> {
-    println!(rt; "{file} unreadable {error}")
-}
-
-fn bytes_of(rt: &HostRuntime, file: &str, most: u64) -> io::Result<Vec<u8>> {
+// As much of a message as tells whether it is too long.
+fn message_in<'a>(rt: &HostRuntime, file: &'a str) -> Result<Vec<u8>, Fault<'a>> {
     let mut bytes = Vec::new(rt.alloc());
-    fs::open(rt, file)?.take(most).read_to_end(&mut bytes)?;
+    fs::open(rt, file)
+        .and_then(|open| open.take(ENOUGH).read_to_end(&mut bytes))
+        .map_err(|error| Fault::Unreadable { file, error })?;
     Ok(bytes)
 }
 
-fn verdict<V: Verifier>(
+fn text_in<'a>(rt: &HostRuntime, file: &'a str) -> Result<Vec<u8>, Fault<'a>> {
+    fs::read(rt, file).map_err(|error| Fault::Unreadable { file, error })
+}
+
+fn verdict<'a, V: Verifier>(
     rt: &HostRuntime,
-    file: &str,
-    message: &[u8],
+    file: &'a str,
     profile: &Choice,
     verifier: &V,
-) -> io::Result<()> {
-    let mut rows = [Row::BLANK; 24];
-    match read(message, &mut rows, profile, verifier) {
-        Ok(walked) => {
-            let count = walked.count;
-            let header = walked.header;
-            let span = walked.span;
-            println!(rt; "{file} ok {count} {header} {span}")
-        }
-        Err(refusal) => refused(rt, file, refusal, ""),
+) -> Result<(), Fault<'a>> {
+    let message = message_in(rt, file)?;
+    let mut rows = [Row::BLANK; MOST_PAYLOADS];
+    let Walked {
+        count,
+        header,
+        span,
+    } = read(&message, &mut rows, profile, verifier).map_err(|refusal| Fault::Refused {
+        file,
+        refusal,
+    })?;
+    println!(rt; "{file} ok {count} {header} {span}")?;
+    Ok(())
+}
+
+// A line for a file that is not taken.
+fn tell(rt: &HostRuntime, fault: Fault<'_>) -> io::Result<()> {
+    match fault {
+        Fault::Io(error) => Err(error),
+        told => println!(rt; "{told}"),
     }
 }
 
@@ -70,89 +75,56 @@ fn verdicts<V: Verifier>(
     verifier: &V,
 ) -> io::Result<()> {
     for file in files {
-        let file = file.as_str();
-        match bytes_of(rt, file, ENOUGH) {
-            Ok(message) => verdict(rt, file, &message, profile, verifier)?,
-            Err(error) => unreadable(rt, file, error)?,
+        if let Err(fault) = verdict(rt, file, profile, verifier) {
+            tell(rt, fault)?;
         }
     }
     Ok(())
 }
 
-fn sheet(rt: &HostRuntime, file: &str) -> io::Result<Option<Choice>> {
-    match bytes_of(rt, file, u64::MAX) {
-        Ok(text) => match Sheet::parse(&text) {
-            Ok(sheet) => Ok(Some(Choice::Sheet(sheet))),
-            Err(refusal) => {
-                refused(rt, file, refusal, "")?;
-                Ok(None)
-            }
-        },
-        Err(error) => {
-            unreadable(rt, file, error)?;
-            Ok(None)
-        }
-    }
-}
-
-// None where there is no such sheet, which is then told.
-fn chosen(rt: &HostRuntime, rules: Rules<'_>) -> io::Result<Option<Choice>> {
-    match rules {
-        Rules::Fixed(fixed) => Ok(Some(Choice::Fixed(fixed))),
-        Rules::Sheet(file) => sheet(rt, file),
-    }
-}
-
-// None where there is no such list, which is then told.
-fn trusting(rt: &HostRuntime, file: &str, tag: KeyTag) -> io::Result<Option<TrustList<KeyTag>>> {
-    let text = match bytes_of(rt, file, u64::MAX) {
-        Ok(text) => text,
-        Err(error) => {
-            unreadable(rt, file, error)?;
-            return Ok(None);
-        }
+fn chosen<'a>(rt: &HostRuntime, rules: Rules<'a>) -> Result<Choice, Fault<'a>> {
+    let file = match rules {
+        Rules::Fixed(fixed) => return Ok(Choice::Fixed(fixed)),
+        Rules::Sheet(file) => file,
     };
+    let text = text_in(rt, file)?;
+    let sheet = Sheet::parse(&text).map_err(|refusal| Fault::Refused { file, refusal })?;
+    Ok(Choice::Sheet(sheet))
+}
+
+fn trusting<'a>(
+    rt: &HostRuntime,
+    file: &'a str,
+    tag: KeyTag,
+) -> Result<TrustList<KeyTag>, Fault<'a>> {
+    let text = text_in(rt, file)?;
     let mut list = TrustList::new(tag);
-    match enter_all(&mut list, &text) {
-        Ok(()) => Ok(Some(list)),
-        Err(fault) => {
-            let line = fault.line;
-            let more = format!(in rt.alloc(); " (line {line})")?;
-            refused(rt, file, fault.refusal, &more)?;
-            Ok(None)
-        }
-    }
+    enter_all(&mut list, file, &text)?;
+    Ok(list)
 }
 
-// Answers whether the messages were read.
-fn run(rt: &HostRuntime, given: Arguments<'_>) -> io::Result<bool> {
+fn run<'a>(rt: &HostRuntime, given: Arguments<'a>) -> Result<(), Fault<'a>> {
     let tag = KeyTag { key: given.key };
-    let profile = match chosen(rt, given.rules)? {
-        Some(profile) => profile,
-        None => return Ok(false),
-    };
+    let profile = chosen(rt, given.rules)?;
     match given.trust {
         None => verdicts(rt, given.files, &profile, &tag)?,
-        Some(file) => match trusting(rt, file, tag)? {
-            Some(list) => verdicts(rt, given.files, &profile, &list)?,
-            None => return Ok(false),
-        },
+        Some(file) => {
+            let list = trusting(rt, file, tag)?;
+            verdicts(rt, given.files, &profile, &list)?
+        }
     }
-    Ok(true)
+    Ok(())
 }
 
 fn main(rt: HostRuntime) -> anyhow::Result<()> {
-    let mut words = Vec::new(rt.alloc());
-    for word in env::args(&rt)?.skip(1) {
-        words.push(word)?;
+    let words: Vec<String> = env::args(&rt)?.skip(1).collect(rt.alloc())?;
+    let Some(given) = parse(&words) else {
+        eprintln!(rt; "{}", USAGE)?;
+        bail!("nothing was read");
+    };
+    if let Err(fault) = run(&rt, given) {
+        tell(&rt, fault)?;
+        bail!("nothing was read");
     }
-    match parse(&words) {
-        Some(given) => {
-            if run(&rt, given)? {
-                return Ok(());
-            }
-        }
-        None => eprintln!(rt; "{}", USAGE)?,
-    }
-    Err(anyhow!("nothing was read"))
+    Ok(())
 }

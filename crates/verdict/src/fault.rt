@@ -1,0 +1,26 @@
+// Why a file is not taken: the line that tells it.
+use std::io;
+use thiserror::Error;
+use wire::Refusal;
+
+#[derive(Debug, Drop, Error)]
+pub enum Fault<'a> {
+    #[error("{file} refused {told} {refusal}", told = .refusal.told())]
+    Refused {
+        file: &'a str,
+        refusal: Refusal,
+    },
+    #[error("{file} refused {told} {refusal} (line {line})", told = .refusal.told())]
+    LineRefused {
+        file: &'a str,
+        line: usize,
+        refusal: Refusal,
+    },
+    #[error("{file} unreadable {error}")]
+    Unreadable {
+        file: &'a str,
+        error: io::Error,
+    },
+    #[error(transparent)]
+    Io(#[from] io::Error),
+}
