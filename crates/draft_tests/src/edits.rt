@@ -1,7 +1,6 @@
 use crate::stations::head;
 use drafter::begin;
 use plain::Head;
-use verifier::same_bytes;
 use wire::Refusal;
 
 #[test]
@@ -21,26 +20,28 @@ fn payloads_are_added_changed_and_removed(rt: HostRuntime) {
     let mut open = begin(&mut buffer);
     assert_eq!(rt; open.add(0, 11, &[0]), Err(Refusal::NoHeader));
     assert_eq!(rt; open.head(&head()), Ok(()));
-    assert!(rt; same_bytes(open.bytes(), &[1, 26, 0, 1, 32, 0, 0, 1, 0, 1]));
+    assert_eq!(rt; open.bytes(), [1, 26, 0, 1, 32, 0, 0, 1, 0, 1].as_slice());
     assert_eq!(rt; open.add(0, 11, &[1, 9]), Ok(()));
-    assert!(rt; same_bytes(open.bytes(), &[1, 26, 11, 1, 32, 0, 0, 1, 0, 1, 0, 1, 9]));
+    assert_eq!(rt;
+        open.bytes(),
+        [1, 26, 11, 1, 32, 0, 0, 1, 0, 1, 0, 1, 9].as_slice()
+    );
     assert_eq!(rt; open.add(0, 14, &[1, 1, 0, 0]), Ok(()));
-    assert!(rt;
-        same_bytes(
-            open.bytes(),
-            &[1, 26, 14, 1, 32, 0, 0, 1, 0, 1, 11, 1, 1, 0, 0, 0, 1, 9]
-        )
+    assert_eq!(rt;
+        open.bytes(),
+        [1, 26, 14, 1, 32, 0, 0, 1, 0, 1, 11, 1, 1, 0, 0, 0, 1, 9].as_slice()
     );
     assert_eq!(rt; open.replace(1, 11, &[0]), Ok(()));
-    assert!(rt;
-        same_bytes(
-            open.bytes(),
-            &[1, 26, 14, 1, 32, 0, 0, 1, 0, 1, 11, 1, 1, 0, 0, 0, 0]
-        )
+    assert_eq!(rt;
+        open.bytes(),
+        [1, 26, 14, 1, 32, 0, 0, 1, 0, 1, 11, 1, 1, 0, 0, 0, 0].as_slice()
     );
     assert_eq!(rt; open.remove(2), Err(Refusal::NoPosition));
     assert_eq!(rt; open.remove(0), Ok(()));
-    assert!(rt; same_bytes(open.bytes(), &[1, 26, 11, 1, 32, 0, 0, 1, 0, 1, 0, 0]));
+    assert_eq!(rt;
+        open.bytes(),
+        [1, 26, 11, 1, 32, 0, 0, 1, 0, 1, 0, 0].as_slice()
+    );
     drop(open);
     assert_eq!(rt; buffer[12], 0);
     assert_eq!(rt; buffer[31], 0);
@@ -69,7 +70,10 @@ fn what_an_edit_refuses(rt: HostRuntime) {
     assert_eq!(rt; open.add(0, 11, &[3, 1, 2, 3]), Err(Refusal::NoRoom));
     assert_eq!(rt; open.add(0, 11, &[2, 1, 2]), Ok(()));
     assert_eq!(rt; open.replace(0, 11, &[3, 1, 2, 3]), Err(Refusal::NoRoom));
-    assert!(rt; same_bytes(open.bytes(), &[1, 26, 11, 1, 32, 0, 0, 1, 0, 1, 0, 2, 1, 2]));
+    assert_eq!(rt;
+        open.bytes(),
+        [1, 26, 11, 1, 32, 0, 0, 1, 0, 1, 0, 2, 1, 2].as_slice()
+    );
 }
 
 #[test]

@@ -2,7 +2,7 @@ use crate::stations::{KEY, RAND, head, sheet};
 use exchange::{exchange, redraft, run};
 use plain::{Call, Reply};
 use profile::Sheet;
-use verifier::{Pinned, same_bytes};
+use verifier::Pinned;
 use wire::{Refusal, Row, Walked};
 
 // The shortest message under the sheet: a header and SIGN.
@@ -48,12 +48,7 @@ fn a_message_is_drafted_again(rt: HostRuntime) {
         Err(Refusal::NotPassed(12))
     );
     assert_eq!(rt; redraft(&SHORTEST, &sheet, &pinned, &mut archive), Ok(13));
-    assert!(rt;
-        same_bytes(
-            &archive,
-            &[1, 26, 4, 1, 32, 0, 0, 1, 0, 1, 0x20, 1, 0xaa, 0]
-        )
-    );
+    assert_eq!(rt; archive, [1, 26, 4, 1, 32, 0, 0, 1, 0, 1, 0x20, 1, 0xaa, 0]);
 }
 
 fn whole<'a>(sheet: &'a Sheet) -> [Call<'a, Sheet>; 3] {
@@ -110,5 +105,5 @@ fn the_whole_way_of_a_message(rt: HostRuntime) {
         }
     );
     assert_eq!(rt; done.again, Ok(13));
-    assert!(rt; same_bytes(&archive, &SHORTEST));
+    assert_eq!(rt; archive, SHORTEST);
 }

@@ -2,7 +2,6 @@ use crate::stations::{KEY, RAND, head, sheet};
 use drafter::{Draft, begin};
 use plain::{Call, Reply};
 use profile::Sheet;
-use verifier::same_bytes;
 use wire::Refusal;
 
 #[test]
@@ -64,7 +63,30 @@ fn a_draft_takes_calls_by_its_state(rt: HostRuntime) {
     let remove: Call<'_, Sheet> = Call::Remove { position: 0 };
     assert_eq!(rt; draft.call(&set), Reply::Done);
     assert_eq!(rt; draft.call(&remove), Reply::Refused(Refusal::NoPosition));
-    assert!(rt; same_bytes(draft.bytes(), &[1, 26, 0, 1, 32, 0, 0, 1, 0, 1]));
+    assert_eq!(rt; draft.bytes(), [1, 26, 0, 1, 32, 0, 0, 1, 0, 1].as_slice());
     let left = draft.end();
-    assert!(rt; same_bytes(left, &[1, 26, 0, 1, 32, 0, 0, 1, 0, 1, 0, 0]));
+    assert_eq!(rt; &*left, [1, 26, 0, 1, 32, 0, 0, 1, 0, 1, 0, 0].as_slice());
+}
+
+#[test]
+fn answers_are_replies(rt: HostRuntime) {
+    let edits: [(Result<(), Refusal>, Reply); 2] = [
+        (Ok(()), Reply::Done),
+        (Err(Refusal::NoRoom), Reply::Refused(Refusal::NoRoom)),
+    ];
+    for (answer, reply) in edits {
+        assert_eq!(rt; Reply::from(answer), reply);
+    }
+}
+
+#[test]
+fn answers_of_sign_are_replies(rt: HostRuntime) {
+    let signs: [(Result<usize, Refusal>, Reply); 3] = [
+        (Ok(13), Reply::Delivered(13)),
+        (Ok(0), Reply::Delivered(0)),
+        (Err(Refusal::SignForm), Reply::Refused(Refusal::SignForm)),
+    ];
+    for (answer, reply) in signs {
+        assert_eq!(rt; Reply::from(answer), reply);
+    }
 }

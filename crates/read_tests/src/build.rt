@@ -29,21 +29,23 @@ impl Unsigned {
         Ok(Unsigned { bytes, next: 2 })
     }
 
-    pub(crate) fn add(&mut self, code: u8, body: &[u8]) -> Result<(), AllocError> {
-        if self.next < self.bytes.len() {
-            self.bytes[self.next] = code;
+    fn name_next(&mut self, code: u8) {
+        if let Some(next) = self.bytes.get_mut(self.next) {
+            *next = code;
         }
+    }
+
+    pub(crate) fn add(&mut self, code: u8, body: &[u8]) -> Result<(), AllocError> {
+        self.name_next(code);
         self.next = self.bytes.len();
         self.bytes.push(0)?;
         self.bytes.extend_from_slice(body)
     }
 
     // With SIGN of type 2, by the key.
-    pub(crate) fn sign(self) -> Result<Vec<u8>, AllocError> {
-        let Unsigned { mut bytes, next } = self;
-        if next < bytes.len() {
-            bytes[next] = 4;
-        }
+    pub(crate) fn sign(mut self) -> Result<Vec<u8>, AllocError> {
+        self.name_next(4);
+        let Unsigned { mut bytes, .. } = self;
         bytes.extend_from_slice(&[0x20, 8])?;
         let signature = KEY.sign(SIGNER, &bytes);
         bytes.extend_from_slice(&signature)?;

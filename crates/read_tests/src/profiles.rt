@@ -1,5 +1,5 @@
 use crate::build::{KEY, Unsigned};
-use profile::{Bounds, Choice, Fixed, Profile, Sheet};
+use profile::{Bounds, Choice, Fixed, Profile, Sheet, UnknownProfile};
 use reader::read;
 use std::alloc::{AllocError, Global};
 use std::process::Abort;
@@ -59,19 +59,37 @@ fn questions(rt: HostRuntime) -> Result<(), Fail> {
     assert_eq!(rt; gmk.bounds(10), Bounds { least: 1, most: 1 });
     assert_eq!(rt; gmk.bounds(13), Bounds { least: 0, most: 0 });
     assert_eq!(rt; gmk.rank(11), 0);
-    let sheet = match Sheet::parse(b"slot least most rank\n2 1 3 7\n") {
-        Ok(sheet) => Choice::Sheet(sheet),
-        Err(_) => {
-            assert!(rt; false);
-            return Ok(())
-        },
-    };
+    let sheet = Choice::Sheet(Sheet::parse(b"slot least most rank\n2 1 3 7\n")?);
     assert!(rt; sheet.takes(3, 15));
     assert!(rt; !sheet.takes(3, 16));
     assert_eq!(rt; sheet.bounds(2), Bounds { least: 1, most: 3 });
     assert_eq!(rt; sheet.bounds(255), Bounds { least: 0, most: 0 });
     assert_eq!(rt; sheet.rank(2), 7);
     assert_eq!(rt; sheet.rank(3), 0);
+    Ok(())
+}
+
+// By its name, which is told from every other.
+#[test]
+fn names_of_fixed_profiles(rt: HostRuntime) {
+    for (name, fixed) in [
+        ("csk", Fixed::Csk),
+        ("pck", Fixed::Pck),
+        ("gmk", Fixed::Gmk),
+    ] {
+        assert_eq!(rt; name.parse::<Fixed>(), Ok(fixed));
+    }
+}
+
+#[test]
+fn names_of_no_profile(rt: HostRuntime) -> Result<(), Fail> {
+    for name in ["", "CSK", "csk ", "cs", "gmkk", "sheet:csk"] {
+        assert_eq!(rt; name.parse::<Fixed>(), Err(UnknownProfile));
+    }
+    assert_eq!(rt;
+        format!(in rt.alloc(); "{UnknownProfile}")?.as_str(),
+        "no fixed profile has this name"
+    );
     Ok(())
 }
 
@@ -113,9 +131,8 @@ fn rows_are_filled_last(rt: HostRuntime) -> Result<(), Fail> {
     assert_eq!(rt; rows[23], Row::BLANK);
     assert_eq!(rt; rows[24], OLD);
     // a signature of another key
-    if message.len() > 0 {
-        let last = message.len() - 1;
-        message[last] = message[last].wrapping_add(1);
+    if let Some(last) = message.last_mut() {
+        *last = last.wrapping_add(1);
     }
     let mut rows = [OLD; 24];
     assert_eq!(rt;
@@ -126,102 +143,46 @@ fn rows_are_filled_last(rt: HostRuntime) -> Result<(), Fail> {
     Ok(())
 }
 
-// A byte of a message that is spoiled, and the field that is then refused there.
-#[derive(Clone, Copy)]
-struct Spoil {
-    byte: usize,
-    value: u8,
-    field: u8,
-}
-
-const SPOILS: [Spoil; 12] = [
-    Spoil {
-        byte: 3,
-        value: 0x81,
-        field: 1,
-    },
-    Spoil {
-        byte: 3,
-        value: 0,
-        field: 2,
-    },
-    Spoil {
-        byte: 4,
-        value: 0x30,
-        field: 3,
-    },
-    Spoil {
-        byte: 40,
-        value: 0,
-        field: 6,
-    },
-    Spoil {
-        byte: 46,
-        value: 2,
-        field: 6,
-    },
-    Spoil {
-        byte: 64,
-        value: 1,
-        field: 7,
-    },
-    Spoil {
-        byte: 68,
-        value: 0,
-        field: 8,
-    },
-    Spoil {
-        byte: 69,
-        value: 1,
-        field: 9,
-    },
-    Spoil {
-        byte: 78,
-        value: 2,
-        field: 8,
-    },
-    Spoil {
-        byte: 79,
-        value: 3,
-        field: 9,
-    },
-    Spoil {
-        byte: 87,
-        value: 0x10,
-        field: 10,
-    },
-    Spoil {
-        byte: 87,
-        value: 0x30,
-        field: 10,
-    },
+// A byte of a message that is spoiled, its value, and the field that is then refused there.
+const SPOILS: [(usize, u8, u8); 12] = [
+    (3, 0x81, 1),
+    (3, 0, 2),
+    (4, 0x30, 3),
+    (40, 0, 6),
+    (46, 2, 6),
+    (64, 1, 7),
+    (68, 0, 8),
+    (69, 1, 9),
+    (78, 2, 8),
+    (79, 3, 9),
+    (87, 0x10, 10),
+    (87, 0x30, 10),
 ];
 
-fn spoiled<P: Profile>(rt: &impl Abort, whole: &[u8], profile: &P) {
-    for spoil in SPOILS {
-        let mut message = [0; 97];
-        assert_eq!(rt; whole.len(), 97);
-        if whole.len() == 97 {
-            message.copy_from_slice(whole);
+fn spoiled<P: Profile>(
+    rt: &impl Abort,
+    heap: Global,
+    whole: &[u8],
+    profile: &P,
+) -> Result<(), Fail> {
+    assert_eq!(rt; whole.len(), 97);
+    for (byte, value, field) in SPOILS {
+        let mut message = Vec::from_slice(heap, whole)?;
+        if let Some(at) = message.get_mut(byte) {
+            *at = value;
         }
-        if spoil.byte < 97 {
-            message[spoil.byte] = spoil.value;
-        }
-        let refusal = Refusal::FieldNotTaken {
-            byte: spoil.byte,
-            field: spoil.field,
-        };
+        let refusal = Refusal::FieldNotTaken { byte, field };
         assert_eq!(rt; under(&message, profile), Err(refusal));
     }
+    Ok(())
 }
 
 #[test]
 fn each_field_spoiled(rt: HostRuntime) -> Result<(), Fail> {
     let heap = rt.alloc();
-    spoiled(&rt, &whole(heap, 2, 0)?, &Fixed::Csk);
-    spoiled(&rt, &whole(heap, 1, 0)?, &Fixed::Pck);
-    spoiled(&rt, &whole(heap, 0, 0)?, &Fixed::Gmk);
-    Ok(())
+    spoiled(&rt, heap, &whole(heap, 2, 0)?, &Fixed::Csk)?;
+    spoiled(&rt, heap, &whole(heap, 1, 0)?, &Fixed::Pck)?;
+    spoiled(&rt, heap, &whole(heap, 0, 0)?, &Fixed::Gmk)
 }
 
 #[test]
@@ -243,53 +204,38 @@ fn identities(heap: Global, first: u8, second: u8) -> Result<Vec<u8>, AllocError
 #[test]
 fn roles_are_slots_of_their_own(rt: HostRuntime) -> Result<(), Fail> {
     let heap = rt.alloc();
-    let sheet = match Sheet::parse(b"slot least most rank\n3 1 1 0\n4 1 1 0\n11 1 1 0\n") {
-        Ok(sheet) => sheet,
-        Err(_) => {
-            assert!(rt; false);
-            return Ok(())
-        },
-    };
-    assert_eq!(rt; under(&identities(heap, 1, 2)?, &sheet), told(3, 10, 24));
-    assert_eq!(rt; under(&identities(heap, 2, 1)?, &sheet), told(3, 10, 24));
-    assert_eq!(rt;
-        under(&identities(heap, 1, 1)?, &sheet),
-        Err(Refusal::AboveMost { start: 16, slot: 3 })
-    );
-    assert_eq!(rt;
-        under(&identities(heap, 1, 6)?, &sheet),
-        Err(Refusal::AboveMost { start: 16, slot: 5 })
-    );
-    assert_eq!(rt;
-        under(&identities(heap, 1, 9)?, &sheet),
-        Err(Refusal::AboveMost {
-            start: 16,
-            slot: 12,
-        })
-    );
+    let sheet = Sheet::parse(b"slot least most rank\n3 1 1 0\n4 1 1 0\n11 1 1 0\n")?;
+    for (first, second, answer) in [
+        (1, 2, told(3, 10, 24)),
+        (2, 1, told(3, 10, 24)),
+        (1, 1, Err(Refusal::AboveMost { start: 16, slot: 3 })),
+        (1, 6, Err(Refusal::AboveMost { start: 16, slot: 5 })),
+        (
+            1,
+            9,
+            Err(Refusal::AboveMost {
+                start: 16,
+                slot: 12,
+            }),
+        ),
+    ] {
+        assert_eq!(rt; under(&identities(heap, first, second)?, &sheet), answer);
+    }
     Ok(())
 }
 
 #[test]
 fn ranks(rt: HostRuntime) -> Result<(), Fail> {
     let heap = rt.alloc();
-    let sheet = match Sheet::parse(b"slot least most rank\n3 1 1 2\n4 0 1 1\n11 1 1 2\n") {
-        Ok(sheet) => sheet,
-        Err(_) => {
-            assert!(rt; false);
-            return Ok(())
-        },
-    };
-    assert_eq!(rt; under(&identities(heap, 2, 1)?, &sheet), told(3, 10, 24));
-    assert_eq!(rt;
-        under(&identities(heap, 1, 2)?, &sheet),
-        Err(Refusal::RankFalls { start: 16, slot: 4 })
-    );
-    // a slot without a line has rank 0, and a rank that falls is told before a count
-    assert_eq!(rt;
-        under(&identities(heap, 1, 6)?, &sheet),
-        Err(Refusal::RankFalls { start: 16, slot: 5 })
-    );
+    let sheet = Sheet::parse(b"slot least most rank\n3 1 1 2\n4 0 1 1\n11 1 1 2\n")?;
+    for (first, second, answer) in [
+        (2, 1, told(3, 10, 24)),
+        (1, 2, Err(Refusal::RankFalls { start: 16, slot: 4 })),
+        // a slot without a line has rank 0, and a rank that falls is told before a count
+        (1, 6, Err(Refusal::RankFalls { start: 16, slot: 5 })),
+    ] {
+        assert_eq!(rt; under(&identities(heap, first, second)?, &sheet), answer);
+    }
     Ok(())
 }
 
@@ -302,13 +248,7 @@ fn least_counts(rt: HostRuntime) -> Result<(), Fail> {
         slot: 1,
     });
     assert_eq!(rt; under(&message, &Fixed::Gmk), missing);
-    let sheet = match Sheet::parse(b"slot least most rank\n3 2 2 0\n4 2 2 0\n11 1 1 0\n") {
-        Ok(sheet) => sheet,
-        Err(_) => {
-            assert!(rt; false);
-            return Ok(())
-        },
-    };
+    let sheet = Sheet::parse(b"slot least most rank\n3 2 2 0\n4 2 2 0\n11 1 1 0\n")?;
     // the lowest slot is the one told
     assert_eq!(rt;
         under(&message, &sheet),

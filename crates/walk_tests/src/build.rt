@@ -23,8 +23,8 @@ pub(crate) fn signed(heap: Global, code: u8, body: &[u8]) -> Result<Vec<u8>, All
 // SIGN behind so many empty RANDs.
 pub(crate) fn many(heap: Global, rands: usize) -> Result<Vec<u8>, AllocError> {
     let mut bytes = header(heap, if rands == 0 { 4 } else { 11 })?;
-    for i in 0..rands {
-        bytes.push(if i + 1 == rands { 4 } else { 11 })?;
+    for left in (0..rands).rev() {
+        bytes.push(if left == 0 { 4 } else { 11 })?;
         bytes.push(0)?;
     }
     bytes.extend_from_slice(&[0x20, 1, 0xaa])?;

@@ -1,7 +1,9 @@
-// Tests of walk, lookup and time: tables, a row a case.
+// Tests of walk, lookup and time, and of the numbers and words of wire: tables, a row a case.
 #![tactic(auto)]
 
 #[cfg(test)]
 mod build;
+#[cfg(test)]
+mod numbers;
 #[cfg(test)]
 mod tests;

@@ -1,7 +1,7 @@
 use crate::build::{header, many, one, signed, with_sessions};
 use std::test::Fail;
 use walk::{lookup, time, walk};
-use wire::{Refusal, Row, Walked};
+use wire::{Kind, Refusal, Row, Slot, Walked};
 
 // A row that no walk writes.
 const OLD: Row = Row {
@@ -10,6 +10,16 @@ const OLD: Row = Row {
     start: 9,
     length: 9,
 };
+
+// The row of a SIGN whose signature is one byte.
+fn sign_at(start: u32) -> Row {
+    Row {
+        code: Kind::Sign.code(),
+        slot: Slot::Sign.number(),
+        start,
+        length: 3,
+    }
+}
 
 #[test]
 fn the_longest_message(rt: HostRuntime) -> Result<(), Fail> {
@@ -39,15 +49,7 @@ fn counts_of_payloads(rt: HostRuntime) -> Result<(), Fail> {
         span: 58,
     };
     assert_eq!(rt; walk(&most, &mut rows), Ok(walked));
-    assert_eq!(rt;
-        rows[23],
-        Row {
-            code: 4,
-            slot: 11,
-            start: 56,
-            length: 3,
-        }
-    );
+    assert_eq!(rt; rows[23], sign_at(56));
     assert_eq!(rt; rows[24], OLD);
     let less = many(rt.alloc(), 22)?;
     assert_eq!(rt;
@@ -61,15 +63,7 @@ fn counts_of_payloads(rt: HostRuntime) -> Result<(), Fail> {
     assert_eq!(rt; rows[23], Row::BLANK);
     let more = many(rt.alloc(), 24)?;
     assert_eq!(rt; walk(&more, &mut rows), Err(Refusal::ExtraPayload(58)));
-    assert_eq!(rt;
-        rows[22],
-        Row {
-            code: 4,
-            slot: 11,
-            start: 54,
-            length: 3,
-        }
-    );
+    assert_eq!(rt; rows[22], sign_at(54));
     Ok(())
 }
 
@@ -116,15 +110,7 @@ fn bodies_whole_and_cut(rt: HostRuntime) -> Result<(), Fail> {
                 length,
             }
         );
-        assert_eq!(rt;
-            rows[1],
-            Row {
-                code: 4,
-                slot: 11,
-                start,
-                length: 3,
-            }
-        );
+        assert_eq!(rt; rows[1], sign_at(start));
         assert_eq!(rt; rows[2], Row::BLANK);
         let mut cut = one(rt.alloc(), code, body)?;
         let _ = cut.pop();
@@ -171,8 +157,8 @@ fn headers_and_codes(rt: HostRuntime) -> Result<(), Fail> {
     for (at, value, refusal) in SPOILED {
         let mut rows = [OLD; 24];
         let mut bytes = signed(rt.alloc(), 11, &[0])?;
-        if at < bytes.len() {
-            bytes[at] = value;
+        if let Some(byte) = bytes.get_mut(at) {
+            *byte = value;
         }
         assert_eq!(rt; walk(&bytes, &mut rows), Err(refusal));
     }
@@ -224,10 +210,10 @@ fn sessions(rt: HostRuntime) -> Result<(), Fail> {
     for (count, bytes, expected) in SESSIONS {
         let mut rows = [OLD; 24];
         let message = with_sessions(rt.alloc(), count, bytes)?;
-        match walk(&message, &mut rows) {
-            Ok(walked) => assert_eq!(rt; Ok(walked.header), expected),
-            Err(refusal) => assert_eq!(rt; Err(refusal), expected),
-        }
+        assert_eq!(rt;
+            walk(&message, &mut rows).map(|walked| walked.header),
+            expected
+        );
     }
     Ok(())
 }
@@ -243,43 +229,44 @@ fn bytes_behind_sign(rt: HostRuntime) -> Result<(), Fail> {
     Ok(())
 }
 
+// A row that marks off a part, whatever its payload.
+fn row(start: u32, length: u32) -> Row {
+    Row {
+        start,
+        length,
+        ..Row::BLANK
+    }
+}
+
+#[test]
+fn where_rows_lie(rt: HostRuntime) {
+    assert_eq!(rt; Row::BLANK.range(), 0..0);
+    assert_eq!(rt; row(1, 3).range(), 1..4);
+    assert_eq!(rt;
+        row(u32::MAX, u32::MAX).range(),
+        4_294_967_295..8_589_934_590
+    );
+}
+
 #[test]
 fn parts_of_a_message(rt: HostRuntime) -> Result<(), Fail> {
     let message = [1, 2, 3, 4, 5];
-    let row = Row {
-        code: 0,
-        slot: 0,
-        start: 1,
-        length: 3,
-    };
-    let part = lookup(&message, &row)?;
-    assert_eq!(rt; part.bytes, &message[1..4]);
-    assert_eq!(rt; part.place, 1);
-    let whole = lookup(
-        &message,
-        &Row {
-            code: 0,
-            slot: 0,
-            start: 5,
-            length: 0,
-        },
-    )?;
-    assert_eq!(rt; whole.bytes.len(), 0);
-    for (start, length) in [(1, 5), (6, 0), (2, u32::MAX), (u32::MAX, 1)] {
-        match lookup(
-            &message,
-            &Row {
-                code: 0,
-                slot: 0,
-                start,
-                length,
-            },
-        ) {
-            Ok(_) => return Err(Fail::new("a part outside the message")),
-            Err(refusal) => assert_eq!(rt; refusal, Refusal::RowOutside),
-        }
+    let parts: [(u32, u32, &[u8]); 3] = [(1, 3, &[2, 3, 4]), (5, 0, &[]), (0, 5, &message)];
+    for (start, length, bytes) in parts {
+        let part = lookup(&message, &row(start, length))?;
+        assert_eq!(rt; part.bytes, bytes);
+        assert_eq!(rt; part.place, start as usize);
     }
     Ok(())
+}
+
+#[test]
+fn parts_outside_a_message(rt: HostRuntime) {
+    let message = [1, 2, 3, 4, 5];
+    for (start, length) in [(1, 5), (6, 0), (2, u32::MAX), (u32::MAX, 1)] {
+        let part = lookup(&message, &row(start, length));
+        assert_eq!(rt; part.err(), Some(Refusal::RowOutside));
+    }
 }
 
 #[test]
