@@ -8,4 +8,6 @@ mod profiles;
 #[cfg(test)]
 mod sheets;
 #[cfg(test)]
+mod shortest;
+#[cfg(test)]
 mod verifiers;

@@ -1,9 +1,10 @@
-use crate::build::{KEY, Unsigned};
+use crate::build::{KEY, SIGNER, Unsigned};
 use profile::{Bounds, Choice, Fixed, Profile, Sheet, UnknownProfile};
 use reader::read;
 use std::alloc::{AllocError, Global};
 use std::process::Abort;
 use std::test::Fail;
+use verifier::{KeyTag, TrustList};
 use wire::{Refusal, Row, Walked};
 
 // A row that no read writes.
@@ -69,6 +70,56 @@ fn questions(rt: HostRuntime) -> Result<(), Fail> {
     Ok(())
 }
 
+// Fields with the lowest and the highest value that is taken, slots with their counts.
+#[test]
+fn tables_of_fixed_profiles(rt: HostRuntime) {
+    for (fixed, purpose, sessions, parameters) in [
+        (Fixed::Csk, 2, 1, 0),
+        (Fixed::Pck, 1, 1, 0),
+        (Fixed::Gmk, 0, 4, 1),
+    ] {
+        for (field, low, high) in [
+            (0, 1, 0),
+            (1, 0, 0),
+            (2, 1, 1),
+            (3, purpose, purpose),
+            (4, 0, sessions),
+            (5, 16, 255),
+            (6, 1, 1),
+            (7, 0, 0),
+            (8, 1, 1),
+            (9, 2, 2),
+            (10, 2, 2),
+            (11, 1, 0),
+            (255, 1, 0),
+        ] {
+            for value in 0..=255 {
+                assert_eq!(rt; fixed.takes(field, value), low <= value && value <= high);
+            }
+        }
+        for (slot, least, most) in [
+            (0, 0, 0),
+            (1, 1, 1),
+            (2, 1, 1),
+            (3, 1, 1),
+            (4, 1, 1),
+            (5, 1, 1),
+            (6, 1, 1),
+            (7, 0, 1),
+            (8, 1, 1),
+            (9, 0, 1),
+            (10, parameters, 1),
+            (11, 1, 1),
+            (12, 0, 0),
+            (13, 0, 0),
+            (255, 0, 0),
+        ] {
+            assert_eq!(rt; fixed.bounds(slot), Bounds { least, most });
+            assert_eq!(rt; fixed.rank(slot), 0);
+        }
+    }
+}
+
 // By its name, which is told from every other.
 #[test]
 fn names_of_fixed_profiles(rt: HostRuntime) {
@@ -109,6 +160,9 @@ fn a_message_of_each_profile(rt: HostRuntime) -> Result<(), Fail> {
     let sessions = Err(Refusal::FieldNotTaken { byte: 8, field: 4 });
     assert_eq!(rt; under(&whole(heap, 2, 2)?, &Fixed::Csk), sessions);
     assert_eq!(rt; under(&whole(heap, 1, 2)?, &Fixed::Pck), sessions);
+    // a group key may come with every #CS that is lawful
+    let lawful = Err(Refusal::SessionMap(8));
+    assert_eq!(rt; under(&whole(heap, 0, 5)?, &Fixed::Gmk), lawful);
     Ok(())
 }
 
@@ -143,13 +197,83 @@ fn rows_are_filled_last(rt: HostRuntime) -> Result<(), Fail> {
     Ok(())
 }
 
+// By its IDR of role 1, which stands at 38.
+#[test]
+fn signers_that_are_trusted(rt: HostRuntime) -> Result<(), Fail> {
+    let message = whole(rt.alloc(), 2, 0)?;
+    let mut list = TrustList::new(KEY);
+    for (signer, answer) in [
+        (&b"b"[..], Err(Refusal::NotPassed(89))),
+        (SIGNER, told(11, 10, 89)),
+        (SIGNER, told(11, 10, 89)),
+    ] {
+        assert_eq!(rt; list.enter(signer), Ok(()));
+        let mut rows = [OLD; 25];
+        assert_eq!(rt; read(&message, &mut rows, &Fixed::Csk, &list), answer);
+    }
+    Ok(())
+}
+
+fn refused<P: Profile>(rt: &impl Abort, message: &[u8], profile: &P, refusal: Refusal) {
+    let mut rows = [OLD; 25];
+    assert_eq!(rt; read(message, &mut rows, profile, &KEY), Err(refusal));
+    assert_eq!(rt; rows, [OLD; 25]);
+}
+
+// By too few rows, by walk and by the profile.
+#[test]
+fn rows_stay_when_a_message_is_refused(rt: HostRuntime) -> Result<(), Fail> {
+    let heap = rt.alloc();
+    let message = whole(heap, 2, 0)?;
+    let mut few = [OLD; 23];
+    assert_eq!(rt;
+        read(&message, &mut few, &Fixed::Csk, &KEY),
+        Err(Refusal::FewRows)
+    );
+    assert_eq!(rt; few, [OLD; 23]);
+    let mut cut = whole(heap, 2, 0)?;
+    cut.truncate(96);
+    refused(&rt, &cut, &Fixed::Csk, Refusal::PayloadCut(87));
+    let purpose = Refusal::FieldNotTaken { byte: 4, field: 3 };
+    refused(&rt, &message, &Fixed::Pck, purpose);
+    let falls = Sheet::parse(b"slot least most rank\n1 1 1 1\n2 1 1 0\n")?;
+    refused(
+        &rt,
+        &message,
+        &falls,
+        Refusal::RankFalls { start: 20, slot: 2 },
+    );
+    let above = Sheet::parse(b"slot least most rank\n1 1 1 0\n")?;
+    refused(
+        &rt,
+        &message,
+        &above,
+        Refusal::AboveMost { start: 20, slot: 2 },
+    );
+    let below = Sheet::parse(
+        b"slot least most rank\n1 1 1 0\n2 2 2 0\n3 1 1 0\n4 1 1 0\n5 1 1 0\n6 1 1 0\n7 1 1 0\n8 1 1 0\n9 1 1 0\n10 1 1 0\n11 1 1 0\n",
+    )?;
+    refused(
+        &rt,
+        &message,
+        &below,
+        Refusal::BelowLeast {
+            length: 97,
+            slot: 2,
+        },
+    );
+    Ok(())
+}
+
 // A byte of a message that is spoiled, its value, and the field that is then refused there.
-const SPOILS: [(usize, u8, u8); 12] = [
+const SPOILS: [(usize, u8, u8); 14] = [
     (3, 0x81, 1),
     (3, 0, 2),
     (4, 0x30, 3),
     (40, 0, 6),
     (46, 2, 6),
+    (52, 0, 6),
+    (58, 2, 6),
     (64, 1, 7),
     (68, 0, 8),
     (69, 1, 9),
@@ -185,12 +309,16 @@ fn each_field_spoiled(rt: HostRuntime) -> Result<(), Fail> {
     spoiled(&rt, heap, &whole(heap, 0, 0)?, &Fixed::Gmk)
 }
 
+// RAND len can't be spoiled by its byte alone, since it is also the length of what follows.
 #[test]
 fn short_rands(rt: HostRuntime) -> Result<(), Fail> {
-    let mut message = Unsigned::new(rt.alloc(), 2, 0)?;
-    message.add(11, &[15, 0, 0, 0, 0, 0, 0, 0, 0, 0, 0, 0, 0, 0, 0, 0])?;
+    let heap = rt.alloc();
     let field = Err(Refusal::FieldNotTaken { byte: 11, field: 5 });
-    assert_eq!(rt; under(&message.sign()?, &Fixed::Csk), field);
+    for (purpose, fixed) in [(2, Fixed::Csk), (1, Fixed::Pck), (0, Fixed::Gmk)] {
+        let mut message = Unsigned::new(heap, purpose, 0)?;
+        message.add(11, &[15, 0, 0, 0, 0, 0, 0, 0, 0, 0, 0, 0, 0, 0, 0, 0])?;
+        assert_eq!(rt; under(&message.sign()?, &fixed), field);
+    }
     Ok(())
 }
 
@@ -236,6 +364,41 @@ fn ranks(rt: HostRuntime) -> Result<(), Fail> {
     ] {
         assert_eq!(rt; under(&identities(heap, first, second)?, &sheet), answer);
     }
+    Ok(())
+}
+
+// Of a payload its field, then its rank, then its count; then the next payload, and at the end the least counts and the verifier.
+#[test]
+fn the_first_refusal_is_told(rt: HostRuntime) -> Result<(), Fail> {
+    let heap = rt.alloc();
+    let sheet = Sheet::parse(
+        b"slot least most rank\n1 1 1 0\n3 0 1 2\n4 0 1 1\n5 0 1 2\n11 1 1 2\n",
+    )?;
+    for (role, id_type, refusal) in [
+        (2, 0, Refusal::FieldNotTaken { byte: 18, field: 6 }),
+        (2, 1, Refusal::RankFalls { start: 16, slot: 4 }),
+        (1, 1, Refusal::AboveMost { start: 16, slot: 3 }),
+        (6, 1, Refusal::FieldNotTaken { byte: 24, field: 6 }),
+    ] {
+        let mut message = Unsigned::new(heap, 0, 0)?;
+        message.add(14, &[1, 1, 0, 1, b'a'])?;
+        message.add(14, &[role, id_type, 0, 1, b'a'])?;
+        message.add(14, &[2, 0, 0, 1, b'a'])?;
+        assert_eq!(rt; under(&message.sign()?, &sheet), Err(refusal));
+    }
+    let mut rows = [OLD; 25];
+    assert_eq!(rt;
+        read(
+            &identities(heap, 1, 6)?,
+            &mut rows,
+            &sheet,
+            &KeyTag { key: 0 }
+        ),
+        Err(Refusal::BelowLeast {
+            length: 32,
+            slot: 1,
+        })
+    );
     Ok(())
 }
 

@@ -1,6 +1,7 @@
-use profile::Sheet;
+use profile::{Bounds, Fixed, Profile, Sheet};
 use std::process::Abort;
-use wire::Refusal;
+use std::test::Fail;
+use wire::{Refusal, Told};
 
 // Each text is refused so, or is a sheet where there is no refusal.
 fn each(rt: &impl Abort, refusal: Option<Refusal>, texts: &[&[u8]]) {
@@ -18,6 +19,44 @@ fn texts_that_are_sheets(rt: HostRuntime) {
         b"slot least most rank\n2 1 1 0\n11 1 1 9\n",
     ];
     each(&rt, None, &texts);
+}
+
+// A slot has what its line says, and zeros without one.
+#[test]
+fn tables_of_sheets(rt: HostRuntime) -> Result<(), Fail> {
+    let sheet = Sheet::parse(b"slot least most rank\n1 0 24 3\n11 1 2 24\n")?;
+    for (slot, least, most, rank) in [
+        (0, 0, 0, 0),
+        (1, 0, 24, 3),
+        (2, 0, 0, 0),
+        (10, 0, 0, 0),
+        (11, 1, 2, 24),
+        (12, 0, 0, 0),
+        (13, 0, 0, 0),
+        (255, 0, 0, 0),
+    ] {
+        assert_eq!(rt; sheet.bounds(slot), Bounds { least, most });
+        assert_eq!(rt; sheet.rank(slot), rank);
+    }
+    let names_only = Sheet::parse(b"slot least most rank\n")?;
+    for slot in 0..=255 {
+        assert_eq!(rt; names_only.bounds(slot), Bounds { least: 0, most: 0 });
+        assert_eq!(rt; names_only.rank(slot), 0);
+    }
+    Ok(())
+}
+
+// Those of group keys, but for every purpose.
+#[test]
+fn fields_of_sheets(rt: HostRuntime) -> Result<(), Fail> {
+    let sheet = Sheet::parse(b"slot least most rank\n")?;
+    for value in 0..=255 {
+        assert_eq!(rt; sheet.takes(3, value), value <= 15);
+        for field in [0, 1, 2, 4, 5, 6, 7, 8, 9, 10, 11, 255] {
+            assert_eq!(rt; sheet.takes(field, value), Fixed::Gmk.takes(field, value));
+        }
+    }
+    Ok(())
 }
 
 #[test]
@@ -48,6 +87,24 @@ fn lines_that_are_not_four_numbers(rt: HostRuntime) {
     each(&rt, Some(Refusal::SheetLine(21)), &first);
     let second: [&[u8]; 1] = [b"slot least most rank\n2 1 1 0\n3 -1 1 0\n"];
     each(&rt, Some(Refusal::SheetLine(29)), &second);
+}
+
+// The two numbers that are told of a sheet's line.
+#[test]
+fn refusals_of_sheets_as_they_are_told(rt: HostRuntime) {
+    let texts: [(&[u8], u8, usize); 3] = [
+        (b"slot least most\n2 1 1\n", 29, 0),
+        (b"slot least most rank\n2 1,5 1 0\n", 30, 21),
+        (b"slot least most rank\n2 2 1 0\n", 31, 21),
+    ];
+    for (text, number, place) in texts {
+        let told = Told {
+            number,
+            place,
+            detail: 0,
+        };
+        assert_eq!(rt; Sheet::parse(text).err().map(Refusal::told), Some(told));
+    }
 }
 
 #[test]

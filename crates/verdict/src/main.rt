@@ -25,7 +25,8 @@ const USAGE: &str =
   --sheet    a profile sheet
   --key      the key of the tag, 16 hexadecimal digits
   --trust    the signers that are trusted, one a line; any signer without it
-prints a line for each message file: FILE ok COUNT HEADER SPAN, or FILE refused NUMBER PLACE DETAIL and why";
+prints a line for each message file, in order: FILE ok COUNT HEADER SPAN, FILE refused NUMBER PLACE DETAIL and why,
+or FILE unreadable and why; a sheet or a trust list that is not taken gets its own such line, and nothing is read";
 
 // As much of a message as tells whether it is too long.
 fn message_in<'a>(rt: &HostRuntime, file: &'a str) -> Result<Vec<u8>, Fault<'a>> {
@@ -117,7 +118,12 @@ fn run<'a>(rt: &HostRuntime, given: Arguments<'a>) -> Result<(), Fault<'a>> {
 }
 
 fn main(rt: HostRuntime) -> anyhow::Result<()> {
-    let words: Vec<String> = env::args(&rt)?.skip(1).collect(rt.alloc())?;
+    let words: Vec<String> = match env::args(&rt) {
+        Ok(words) => words.skip(1).collect(rt.alloc())?,
+        // A word that is not UTF-8 is none of the usage's, and no file is found by it.
+        Err(error) if error.kind() == io::ErrorKind::InvalidData => Vec::new(rt.alloc()),
+        Err(error) => return Err(error.into()),
+    };
     let Some(given) = parse(&words) else {
         eprintln!(rt; "{}", USAGE)?;
         bail!("nothing was read");
