@@ -86,4 +86,11 @@ fn at_most_23_payloads(rt: HostRuntime) {
     }
     assert_eq!(rt; open.add(0, 11, &[0]), Err(Refusal::DraftFull));
     assert_eq!(rt; open.bytes().len(), 56);
+    drop(open);
+    let mut full = [0u8; 100];
+    full[..10].copy_from_slice(&[1, 26, 11, 1, 32, 0, 0, 1, 0, 1]);
+    for i in 0..22 {
+        full[10 + 2 * i] = 11;
+    }
+    assert_eq!(rt; buffer, full);
 }

@@ -1,6 +1,8 @@
-// Tests of drafts: their edits, how they go out, lists of calls, and messages drafted again.
+// Tests of drafts: their buffers, their edits, how they go out, lists of calls, and messages drafted again.
 #![tactic(auto)]
 
+#[cfg(test)]
+mod buffers;
 #[cfg(test)]
 mod edits;
 #[cfg(test)]

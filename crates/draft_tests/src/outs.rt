@@ -1,4 +1,4 @@
-use crate::stations::{KEY, RAND, head, sheet};
+use crate::stations::{HEADER, KEY, RAND, head, holds, sheet};
 use drafter::{Draft, begin};
 use plain::{Call, Reply};
 use profile::Sheet;
@@ -51,6 +51,80 @@ fn faults_are_carried(rt: HostRuntime) {
             field: 10
         })
     );
+}
+
+#[test]
+fn a_fault_is_mended(rt: HostRuntime) {
+    let sheet = sheet().expect(&rt, "a sheet");
+    let mut buffer = [7u8; 50];
+    let mut open = begin(&mut buffer);
+    assert_eq!(rt; open.head(&head()), Ok(()));
+    assert_eq!(rt; open.add(0, 11, &RAND), Ok(()));
+    assert_eq!(rt; open.add(1, 11, &RAND), Ok(()));
+    let two = Err(Refusal::AboveMost { start: 28, slot: 2 });
+    let mut out = open.close(&sheet, 2, 2);
+    assert_eq!(rt; out.sign(&[5, 6]), two);
+    assert_eq!(rt; out.sign(&[5]), two);
+    assert_eq!(rt; out.bytes().len(), 46);
+    assert_eq!(rt; out.span().len(), 0);
+    let mut open = out.withdraw();
+    assert_eq!(rt; open.bytes().len(), 46);
+    assert_eq!(rt; open.remove(1), Ok(()));
+    let mut out = open.close(&sheet, 2, 2);
+    assert_eq!(rt; out.sign(&[5, 6]), Ok(32));
+    let (delivered, left) = out.release();
+    assert_eq!(rt; delivered, 32);
+    let mut mended = [0u8; 50];
+    mended[..11].copy_from_slice(&[1, 26, 11, 1, 32, 0, 0, 1, 0, 1, 4]);
+    mended[11..28].copy_from_slice(&RAND);
+    mended[28..32].copy_from_slice(&[0x20, 2, 5, 6]);
+    assert_eq!(rt; &*left, mended.as_slice());
+}
+
+// A header and SIGN, with a signature of four bytes.
+fn message(signature: [u8; 4]) -> [u8; 16] {
+    let [a, b, c, d] = signature;
+    [1, 26, 4, 1, 32, 0, 0, 1, 0, 1, 0x20, 4, a, b, c, d]
+}
+
+#[test]
+fn the_last_signature_stands(rt: HostRuntime) {
+    let sheet = sheet().expect(&rt, "a sheet");
+    let mut buffer = [7u8; 16];
+    let mut open = begin(&mut buffer);
+    assert_eq!(rt; open.head(&head()), Ok(()));
+    let mut out = open.close(&sheet, 2, 4);
+    for wrong in [[].as_slice(), &[9; 3], &[9; 5]] {
+        assert_eq!(rt; out.sign(wrong), Err(Refusal::SignatureLength));
+        assert_eq!(rt; out.bytes(), message([0; 4]).as_slice());
+    }
+    assert_eq!(rt; out.sign(&[1, 2, 3, 4]), Ok(16));
+    assert_eq!(rt; out.bytes(), message([1, 2, 3, 4]).as_slice());
+    assert_eq!(rt; out.sign(&[5, 6, 7, 8]), Ok(16));
+    assert_eq!(rt; out.sign(&[9; 3]), Err(Refusal::SignatureLength));
+    let (delivered, left) = out.release();
+    assert_eq!(rt; delivered, 16);
+    assert_eq!(rt; &*left, message([5, 6, 7, 8]).as_slice());
+}
+
+// Closes a draft of a header alone and releases it without a signature.
+fn unsigned(sheet: &Sheet, sign_type: u8) -> (usize, [u8; 16]) {
+    let mut buffer = [7u8; 16];
+    let mut open = begin(&mut buffer);
+    let _ = open.head(&head());
+    let (delivered, _buffer) = open.close(sheet, sign_type, 4).release();
+    (delivered, buffer)
+}
+
+#[test]
+fn released_without_a_signature(rt: HostRuntime) {
+    let sheet = sheet().expect(&rt, "a sheet");
+    let (delivered, buffer) = unsigned(&sheet, 2);
+    assert_eq!(rt; delivered, 0);
+    assert_eq!(rt; buffer, message([0; 4]));
+    let (delivered, buffer) = unsigned(&sheet, 3);
+    assert_eq!(rt; delivered, 0);
+    assert!(rt; holds(&buffer, &HEADER, 0));
 }
 
 #[test]

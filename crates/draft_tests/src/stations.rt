@@ -23,3 +23,14 @@ pub(crate) fn head() -> Head<'static> {
 pub(crate) fn sheet() -> Result<Sheet, Refusal> {
     Sheet::parse(b"slot least most rank\n2 0 1 0\n11 1 1 1\n")
 }
+
+// The bytes of that header, where nothing follows it.
+pub(crate) const HEADER: [u8; 10] = [1, 26, 0, 1, 32, 0, 0, 1, 0, 1];
+
+// A buffer begins with bytes, and has zeros behind them up to the 8,192nd, and `rest` from there on.
+pub(crate) fn holds(buffer: &[u8], bytes: &[u8], rest: u8) -> bool {
+    let (counted, past) = buffer.split_at(buffer.len().min(8192));
+    counted.starts_with(bytes)
+        && counted.iter().skip(bytes.len()).all(|byte| *byte == 0)
+        && past.iter().all(|byte| *byte == rest)
+}
