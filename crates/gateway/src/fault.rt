@@ -1,0 +1,12 @@
+// Why the message does not go its way to the end.
+use std::io;
+use thiserror::Error;
+use wire::Refusal;
+
+#[derive(Debug, Drop, Error)]
+pub enum Fault {
+    #[error("{0}")]
+    Refused(#[from] Refusal),
+    #[error(transparent)]
+    Io(#[from] io::Error),
+}
