@@ -6,7 +6,7 @@ use std::alloc::AllocError;
 use std::io;
 use wire::{Refusal, Row, Walked};
 
-// Bytes in lower-case digits, `-` for none.
+// Bytes in lower-case digits, `-` for none. The program draft has the same: programs share no crate.
 fn spelled(rt: &HostRuntime, bytes: &[u8]) -> Result<String, AllocError> {
     if bytes.is_empty() {
         return String::from_str(rt.alloc(), "-");

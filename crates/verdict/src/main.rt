@@ -83,6 +83,7 @@ fn verdicts<V: Verifier>(
     Ok(())
 }
 
+// The program draft reads a sheet by two lines of its own too, and tells a fault in other words.
 fn chosen<'a>(rt: &HostRuntime, rules: Rules<'a>) -> Result<Choice, Fault<'a>> {
     let file = match rules {
         Rules::Fixed(fixed) => return Ok(Choice::Fixed(fixed)),

@@ -24,7 +24,7 @@ fn turn_all(start: u64, bytes: &[u8]) -> u64
     bytes.iter().fold(start, |t, b| turn(t, *b))
 }
 
-// In two folds, since one over a chain of both takes twice as long.
+// In two folds, since one over a chain of both takes more than twice as long.
 fn tag_over(key: u64, signer: &[u8], span: &[u8]) -> u64
     ensures { result ≡ tag key (signer.now ++ span.now) }
 {

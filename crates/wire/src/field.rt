@@ -1,4 +1,4 @@
-// The fields that a profile is asked about, by their numbers.
+// The fields that a profile is asked about, by their numbers, written out as those of slots are.
 ghost use Rattle.std.specs.Prelude.{◌≡◌};
 ghost use Rattle.wire.specs.Numbered.{Names, field_number};
 

@@ -3,6 +3,7 @@
 ghost use Rattle.std.specs.Prelude.{◌≡◌};
 ghost use Rattle.wire.specs.Refusals.{told};
 
+use crate::limits::LONGEST;
 use std::fmt;
 
 #[derive(Clone, Copy, PartialEq, Eq, Debug)]
@@ -59,12 +60,13 @@ const fn tells(number: u8, place: usize, detail: u8) -> Told
 }
 
 impl Refusal {
+    // What From below is made by.
     pub fn told(self) -> Told
         ensures { result ≡ told self }
     {
         match self {
             Refusal::FewRows => tells(1, 0, 0),
-            Refusal::TooLong => tells(2, 8192, 0),
+            Refusal::TooLong => tells(2, LONGEST, 0),
             Refusal::TooShort(length) => tells(3, length, 0),
             Refusal::Version => tells(4, 0, 0),
             Refusal::DataType => tells(5, 1, 0),
