@@ -85,15 +85,12 @@ module _ (counted : ℕ) (h : Header) (ps os qs : List Payload) (bs : List ℕ) 
         (splice_lies counted bytes bs fits within is at old end (front named h ps) gone behind new split (same_front named 0 h ps) size long)
         ∙ set-append_left (front named h ps) rest (naming_of h ps) code (naming_within named h ps) ∙ ap (λ x. x ++ rest) (renamed named code h ps)
 
-    pub placed_lies : (p : Payload) (next code : ℕ) (body : List ℕ) → next ≡ first 0 qs → code_of p.kind ≡ code → p.body ≡ body
-        → set (spliced counted end at old (next ∷ body) bs) (naming_of h ps) code
-        ≡ front 0 h (ps ++ (p ∷ qs)) ++ (replicate (counted - length (front 0 h (ps ++ (p ∷ qs)))) 0 ++ drop counted bs)
-    placed_lies p next code body en ec eb =
-        let new : List ℕ = next ∷ body in
+    -- other bytes in the place of what stands there, under their code
+    changed_lies : (new : List ℕ) (code : ℕ) (rs : List Payload) → front 0 h rs ≡ front code h ps ++ (new ++ behind)
+        → set (spliced counted end at old new bs) (naming_of h ps) code ≡ front 0 h rs ++ (replicate (counted - length (front 0 h rs)) 0 ++ drop counted bs)
+    changed_lies new code rs whole =
         let zeros : ℕ → List ℕ = λ n. replicate (counted - n) 0 ++ drop counted bs in
-        let whole : front 0 h (ps ++ (p ∷ qs)) ≡ front code h ps ++ (new ++ behind) =
-        front_append 0 h ps (p ∷ qs) ∙ ap₂ (λ c x. front c h ps ++ x) ec (ap₂ (λ n b. n ∷ (b ++ behind)) (sym en) eb) in
-        let n : end - old + length new ≡ length (front 0 h (ps ++ (p ∷ qs))) =
+        let n : end - old + length new ≡ length (front 0 h rs) =
         omega (
           arith,
           long,
@@ -104,31 +101,22 @@ module _ (counted : ℕ) (h : Header) (ps os qs : List Payload) (bs : List ℕ) 
           same_front named code h ps,
           ap length whole,
           length-append (front code h ps) (new ++ behind),
-          length-append body behind,
+          length-append new behind,
         ) in
         renamed_splice new code ∙ ap (λ x. front code h ps ++ (new ++ (behind ++ zeros x))) n
-        ∙ ap (λ x. front code h ps ++ x) (sym (append_assoc new behind (zeros (length (front 0 h (ps ++ (p ∷ qs)))))))
-        ∙ sym (append_assoc (front code h ps) (new ++ behind) (zeros (length (front 0 h (ps ++ (p ∷ qs)))))) ∙ ap (λ x. x ++ zeros (length (front 0 h (ps ++ (p ∷ qs))))) (sym whole)
+        ∙ ap (λ x. front code h ps ++ x) (sym (append_assoc new behind (zeros (length (front 0 h rs)))))
+        ∙ sym (append_assoc (front code h ps) (new ++ behind) (zeros (length (front 0 h rs)))) ∙ ap (λ x. x ++ zeros (length (front 0 h rs))) (sym whole)
+
+    pub placed_lies : (p : Payload) (next code : ℕ) (body : List ℕ) → next ≡ first 0 qs → code_of p.kind ≡ code → p.body ≡ body
+        → set (spliced counted end at old (next ∷ body) bs) (naming_of h ps) code
+        ≡ front 0 h (ps ++ (p ∷ qs)) ++ (replicate (counted - length (front 0 h (ps ++ (p ∷ qs)))) 0 ++ drop counted bs)
+    placed_lies p next code body en ec eb =
+        changed_lies (next ∷ body) code (ps ++ (p ∷ qs))
+        (front_append 0 h ps (p ∷ qs) ∙ ap₂ (λ c x. front c h ps ++ x) ec (ap₂ (λ n b. n ∷ (b ++ behind)) (sym en) eb))
 
     pub removed_lies : (next : ℕ) → next ≡ first 0 qs
         → set (spliced counted end at old [] bs) (naming_of h ps) next ≡ front 0 h (ps ++ qs) ++ (replicate (counted - length (front 0 h (ps ++ qs))) 0 ++ drop counted bs)
-    removed_lies next en =
-        let zeros : ℕ → List ℕ = λ n. replicate (counted - n) 0 ++ drop counted bs in
-        let whole : front 0 h (ps ++ qs) ≡ front next h ps ++ behind = front_append 0 h ps qs ∙ ap (λ c. front c h ps ++ behind) (sym en) in
-        let n : end - old + 0 ≡ length (front 0 h (ps ++ qs)) =
-        omega (
-          arith,
-          long,
-          ap length split,
-          length-append (front named h ps) (gone ++ behind),
-          length-append gone behind,
-          size,
-          same_front named next h ps,
-          ap length whole,
-          length-append (front next h ps) behind,
-        ) in
-        renamed_splice [] next ∙ ap (λ x. front next h ps ++ (behind ++ zeros x)) n
-        ∙ sym (append_assoc (front next h ps) behind (zeros (length (front 0 h (ps ++ qs))))) ∙ ap (λ x. x ++ zeros (length (front 0 h (ps ++ qs)))) (sym whole)
+    removed_lies next en = changed_lies [] next (ps ++ qs) (front_append 0 h ps qs ∙ ap (λ c. front c h ps ++ behind) (sym en))
 
 -- a header in the place of an earlier one, or of none
 pub headed_lies : (counted : ℕ) (bytes bs before : List ℕ) (h : Header) (ps : List Payload) (old end next : ℕ) → length bytes ≤ counted → counted ≤ length bs → Lies counted bytes bs
