@@ -98,30 +98,16 @@ pub fn bytes(rt: &HostRuntime, what: &str, bytes: &[u8]) -> io::Result<()> {
     println!(rt; "    {spelled}")
 }
 
-fn row(rt: &HostRuntime, row: &Row) -> io::Result<()> {
-    let Row {
-        code,
-        slot,
-        start,
-        length,
-    } = *row;
-    println!(rt; "    {code} {slot} {start} {length}")
-}
-
 // What read answers: three numbers and the rows, or the refusal.
 pub fn reading(rt: &HostRuntime, read: Result<Walked, Refusal>, rows: &[Row]) -> io::Result<()> {
-    let Walked {
-        count,
-        header,
-        span,
-    } = match read {
+    let walked = match read {
         Ok(walked) => walked,
         Err(refusal) => return refused(rt, refusal),
     };
-    println!(rt; "    ok {count} {header} {span}")?;
+    println!(rt; "    ok {walked}")?;
     println!(rt; "    code slot start length")?;
-    for told in rows.iter().take(count) {
-        row(rt, told)?;
+    for row in rows.iter().take(walked.count) {
+        println!(rt; "    {row}")?;
     }
     Ok(())
 }

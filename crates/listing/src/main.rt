@@ -18,13 +18,7 @@ fn input(rt: &HostRuntime) -> io::Result<Vec<u8>> {
 fn list(rt: &HostRuntime, rows: &[Row]) -> io::Result<()> {
     println!(rt; "code slot start length")?;
     for row in rows {
-        let Row {
-            code,
-            slot,
-            start,
-            length,
-        } = *row;
-        println!(rt; "{code} {slot} {start} {length}")?;
+        println!(rt; "{row}")?;
     }
     Ok(())
 }

@@ -1,6 +1,7 @@
 // The three fixed profiles: client-server key, private call key, group key.
+ghost use Rattle.std.specs.Prelude.{Some};
 ghost use Rattle.profile.specs.Fixed.{fixed_tables};
-ghost use Rattle.profile.specs.Names.{Named};
+ghost use Rattle.profile.specs.Names.{Named, unknown_text};
 
 use crate::interface::{Bounds, Profile};
 use crate::table::entry_or;
@@ -20,6 +21,8 @@ pub enum Fixed {
 pub struct UnknownProfile;
 
 impl fmt::Display for UnknownProfile {
+    ghost output = { λ _. Some unknown_text };
+
     fn fmt<W: fmt::Write>(&self, f: &mut fmt::Formatter<W>) -> fmt::Result {
         f.write_str("no fixed profile has this name")
     }

@@ -14,7 +14,7 @@ use std::io::Read;
 use std::{env, fs, io};
 use trust::enter_all;
 use verifier::{KeyTag, TrustList, Verifier};
-use wire::{LONGEST, MOST_PAYLOADS, Row, Walked};
+use wire::{LONGEST, MOST_PAYLOADS, Row};
 
 // One byte more than the longest message, so that a longer one is refused for its length.
 const ENOUGH: u64 = LONGEST as u64 + 1;
@@ -49,15 +49,11 @@ fn verdict<'a, V: Verifier>(
 ) -> Result<(), Fault<'a>> {
     let message = message_in(rt, file)?;
     let mut rows = [Row::BLANK; MOST_PAYLOADS];
-    let Walked {
-        count,
-        header,
-        span,
-    } = read(&message, &mut rows, profile, verifier).map_err(|refusal| Fault::Refused {
+    let walked = read(&message, &mut rows, profile, verifier).map_err(|refusal| Fault::Refused {
         file,
         refusal,
     })?;
-    println!(rt; "{file} ok {count} {header} {span}")?;
+    println!(rt; "{file} ok {walked}")?;
     Ok(())
 }
 

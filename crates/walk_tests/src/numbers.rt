@@ -1,6 +1,6 @@
 // The numbers of kinds, slots and fields, and refusals as they are told and in words.
 use std::test::Fail;
-use wire::{Field, Kind, Refusal, Slot, Told, UnknownNumber};
+use wire::{Field, Kind, Refusal, Row, Slot, Told, UnknownNumber, Walked};
 
 const KINDS: [(u8, Kind); 7] = [
     (4, Kind::Sign),
@@ -161,6 +161,24 @@ fn refusals_as_they_are_told(rt: HostRuntime) -> Result<(), Fail> {
         assert_eq!(rt; told, refusal.told());
         assert_eq!(rt; format!(in rt.alloc(); "{told}")?.as_str(), text);
     }
+    Ok(())
+}
+
+#[test]
+fn rows_and_numbers_as_they_are_told(rt: HostRuntime) -> Result<(), Fail> {
+    let row = Row {
+        code: 26,
+        slot: 8,
+        start: 95,
+        length: 85,
+    };
+    assert_eq!(rt; format!(in rt.alloc(); "{row}")?.as_str(), "26 8 95 85");
+    let walked = Walked {
+        count: 10,
+        header: 12,
+        span: 279,
+    };
+    assert_eq!(rt; format!(in rt.alloc(); "{walked}")?.as_str(), "10 12 279");
     Ok(())
 }
 

@@ -9,3 +9,4 @@ pub mod Rows
 pub mod Answers
 pub mod Extents
 pub mod Walking
+pub mod Texts

@@ -1,6 +1,7 @@
 // The fields that a profile is asked about, by their numbers, written out as those of slots are.
-ghost use Rattle.std.specs.Prelude.{◌≡◌};
+ghost use Rattle.std.specs.Prelude.{◌≡◌, Some};
 ghost use Rattle.wire.specs.Numbered.{Names, field_number};
+ghost use Rattle.wire.specs.Texts.{field_words};
 
 use crate::number::UnknownNumber;
 use std::fmt;
@@ -50,6 +51,8 @@ impl TryFrom<u8> for Field {
 }
 
 impl fmt::Display for Field {
+    ghost output = { λ field. Some (field_words field) };
+
     fn fmt<W: fmt::Write>(&self, f: &mut fmt::Formatter<W>) -> fmt::Result {
         f.write_str(match self {
             Field::Version => "V",

@@ -1,4 +1,7 @@
 // Numbers that stand for things, where a message or a caller gives one.
+ghost use Rattle.std.specs.Prelude.{Some};
+ghost use Rattle.wire.specs.Texts.{unknown_text};
+
 use std::fmt;
 
 // A number that stands for nothing there is.
@@ -8,6 +11,8 @@ pub struct UnknownNumber {
 }
 
 impl fmt::Display for UnknownNumber {
+    ghost output = { λ unknown. Some (unknown_text unknown.number) };
+
     fn fmt<W: fmt::Write>(&self, f: &mut fmt::Formatter<W>) -> fmt::Result {
         write!(f, "nothing has the number {}", self.number)
     }

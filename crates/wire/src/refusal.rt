@@ -1,7 +1,8 @@
 // Refusals: a variant for each, with the values that vary in it. Fields and slots are told by number, since a profile is asked for every
 // number from 0 to 255.
-ghost use Rattle.std.specs.Prelude.{◌≡◌};
+ghost use Rattle.std.specs.Prelude.{◌≡◌, Some};
 ghost use Rattle.wire.specs.Refusals.{told};
+ghost use Rattle.wire.specs.Texts.{told_text};
 
 use crate::limits::LONGEST;
 use std::fmt;
@@ -110,6 +111,8 @@ impl From<Refusal> for Told {
 
 // As programs print it.
 impl fmt::Display for Told {
+    ghost output = { λ told. Some (told_text told) };
+
     fn fmt<W: fmt::Write>(&self, f: &mut fmt::Formatter<W>) -> fmt::Result {
         write!(f, "{} {} {}", self.number, self.place, self.detail)
     }

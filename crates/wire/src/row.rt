@@ -1,7 +1,9 @@
 // What a walk tells of a message: a row for each payload, and three numbers. Code and slot are numbers here and no enums, since calls
 // take rows of any numbers.
-ghost use Rattle.std.specs.Prelude.{◌≡◌, ◌+◌};
+ghost use Rattle.std.specs.Prelude.{◌≡◌, ◌+◌, Some};
+ghost use Rattle.wire.specs.Texts.{row_text, walked_text};
 
+use std::fmt;
 use std::ops::Range;
 
 #[derive(Clone, Copy, PartialEq, Eq, Debug)]
@@ -31,10 +33,32 @@ impl Row {
     }
 }
 
+// As programs print it.
+impl fmt::Display for Row {
+    ghost output = { λ row. Some (row_text row) };
+
+    fn fmt<W: fmt::Write>(&self, f: &mut fmt::Formatter<W>) -> fmt::Result {
+        write!(
+            f,
+            "{} {} {} {}",
+            self.code, self.slot, self.start, self.length
+        )
+    }
+}
+
 // The number of payloads with SIGN, the length of the header, and that of the span: all before the signature.
 #[derive(Clone, Copy, PartialEq, Eq, Debug)]
 pub struct Walked {
     pub count: usize,
     pub header: usize,
     pub span: usize,
+}
+
+// As programs print it.
+impl fmt::Display for Walked {
+    ghost output = { λ walked. Some (walked_text walked) };
+
+    fn fmt<W: fmt::Write>(&self, f: &mut fmt::Formatter<W>) -> fmt::Result {
+        write!(f, "{} {} {}", self.count, self.header, self.span)
+    }
 }

@@ -1,6 +1,7 @@
 // The slots of payloads, by their numbers. Number and conversion are written out for kinds, slots and fields alike: no derive makes them.
-ghost use Rattle.std.specs.Prelude.{◌≡◌};
+ghost use Rattle.std.specs.Prelude.{◌≡◌, Some};
 ghost use Rattle.wire.specs.Numbered.{Names, slot_number};
+ghost use Rattle.wire.specs.Texts.{slot_words};
 
 use crate::number::UnknownNumber;
 use std::fmt;
@@ -55,6 +56,8 @@ impl TryFrom<u8> for Slot {
 }
 
 impl fmt::Display for Slot {
+    ghost output = { λ slot. Some (slot_words slot) };
+
     fn fmt<W: fmt::Write>(&self, f: &mut fmt::Formatter<W>) -> fmt::Result {
         f.write_str(match self {
             Slot::T => "T",
