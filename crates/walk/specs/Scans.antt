@@ -1,11 +1,14 @@
 -- What a chain of payloads comes to in a table of rows.
 use Rattle.std.specs.Prelude.{◌≡◌, ℕ, ◌+◌, ◌≤◌, List, [], ◌++◌, length, take, drop, Ok, Err, slice_index}
+use Rattle.wire.specs.declared.kind.Kind.{Kind}
 use Rattle.wire.specs.declared.row.Row.{Row}
 use Rattle.wire.specs.Messages.{Message, with_sign, sign_body}
-use Rattle.wire.specs.Rows.{rows_from, rows, sizes}
+use Rattle.wire.specs.Kinds.{code_of}
+use Rattle.wire.specs.Rows.{rows_from, rows, sizes, slot_of}
 use Rattle.wire.specs.Answers.{Answer, map_ok}
 use Rattle.wire.specs.Walking.{Chain, chain}
 use Rattle.walk.specs.declared.chain.Links.{Links}
+use Rattle.walk.specs.declared.chain.Found.{Found}
 
 -- the rows, and where SIGN begins and ends
 pub record Scan : Type 0 where
@@ -42,3 +45,10 @@ pub record Inside (n : ℕ) (l : Links) : Type 0 where
 abbrev pub HoldsRows : Answer Message → List Row → Type 0
 HoldsRows (Ok m) table = take (length (rows m)) table ≡ rows m
 HoldsRows (Err f) table = Unit {0}
+
+-- what is found of a payload of this kind at `at`, which lies inside the message
+pub record Tells (m : List ℕ) (k : Kind) (at : ℕ) (f : Found) : Type 0 where
+  pub code : f.code ≡ code_of k
+  pub slot : f.slot ≡ slot_of k (slice_index m (at + 1))
+  pub some : 2 ≤ f.length
+  pub fits : at + f.length ≤ length m

@@ -6,10 +6,10 @@ ghost use Rattle.wire.specs.Numbered.{slot_number};
 ghost use Rattle.wire.specs.Rows.{slot_of};
 ghost use Rattle.wire.specs.Extents.{body_at};
 ghost use Rattle.wire.specs.Walking.{kind_at};
-ghost use Rattle.walk.specs.Scans.{scanning, links_of, Holds, Inside};
+ghost use Rattle.walk.specs.Scans.{scanning, links_of, Tells, Holds, Inside};
 
 use crate::layout::body;
-use wire::{Kind, MOST_PAYLOADS, Refusal, Row, Slot, byte_at};
+use wire::{Kind, MOST_PAYLOADS, Refusal, Row, Slot};
 
 // The number of payloads with SIGN, and where SIGN begins and ends.
 #[derive(Clone, Copy)]
@@ -59,6 +59,45 @@ fn payload(message: &[u8], kind: Kind, at: usize) -> Result<usize, Refusal>
     Ok(1 + body(kind, at, rest)?)
 }
 
+// What a payload is found to be: the numbers of its row but the start.
+#[derive(Clone, Copy)]
+pub(crate) struct Found {
+    pub(crate) code: u8,
+    pub(crate) slot: u8,
+    pub(crate) length: usize,
+}
+
+// The payload at `at`.
+fn find(message: &[u8], kind: Kind, at: usize) -> Result<Found, Refusal>
+    requires { at ≤ length message.now }
+    ensures answer { map_ok (λ f. f.length) result ≡ map_ok (λ p. lead kind + length p) (body_at kind at (drop (lead kind) (drop at message.now))) }
+    ensures found { IfOk result (Tells message.now kind at) }
+{
+    let length = payload(message, kind, at)?;
+    Ok(Found {
+        code: kind.code(),
+        slot: slot(kind, message[at + 1]).number(),
+        length,
+    })
+}
+
+// The same by an arm for each kind: in each the compiler knows the kind, so that one jump is left for length, rule, code and slot.
+fn find_by_kind(message: &[u8], kind: Kind, at: usize) -> Result<Found, Refusal>
+    requires { at ≤ length message.now }
+    ensures answer { map_ok (λ f. f.length) result ≡ map_ok (λ p. lead kind + length p) (body_at kind at (drop (lead kind) (drop at message.now))) }
+    ensures found { IfOk result (Tells message.now kind at) }
+{
+    match kind {
+        Kind::T => find(message, Kind::T, at),
+        Kind::Rand => find(message, Kind::Rand, at),
+        Kind::Idr => find(message, Kind::Idr, at),
+        Kind::Sp => find(message, Kind::Sp, at),
+        Kind::Sakke => find(message, Kind::Sakke, at),
+        Kind::Ext => find(message, Kind::Ext, at),
+        Kind::Sign => find(message, Kind::Sign, at),
+    }
+}
+
 // The rows of the payloads from a place on go into the table.
 pub(crate) fn chain(
     message: &[u8],
@@ -75,22 +114,22 @@ pub(crate) fn chain(
     let mut at = from;
     for (i, row) in table.iter_mut().enumerate() {
         let kind = kind_of(message[naming], naming)?;
-        let length = payload(message, kind, at)?;
+        let found = find_by_kind(message, kind, at)?;
         *row = Row {
-            code: kind.code(),
-            slot: slot(kind, byte_at(message, at + 1)).number(),
+            code: found.code,
+            slot: found.slot,
             start: at as u32,
-            length: length as u32,
+            length: found.length as u32,
         };
         if kind == Kind::Sign {
             return Ok(Links {
                 count: i + 1,
                 sign: at,
-                end: at + length,
+                end: at + found.length,
             });
         }
         naming = at;
-        at += length;
+        at += found.length;
     }
     kind_of(message[naming], naming)?;
     Err(Refusal::ExtraPayload(at))

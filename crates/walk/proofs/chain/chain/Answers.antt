@@ -18,23 +18,25 @@ returns-in_err-kind c =
     let e = kind_refused m l.table l.i l.naming l.at _ c.in_err-kind.ensures ∙ l.invariant.left in
     search rules
 
-pub returns-in_err-length : goal.returns-in_err-length
-returns-in_err-length c =
+pub returns-in_err-found : goal.returns-in_err-found
+returns-in_err-found c =
     let l = c.loop-i in
     let m = c.args.message.now in
-    let e = payload_refused m l.table l.i l.naming l.at (omega arith) c.in_ok-kind.kind c.in_ok-kind.ensures _ c.in_err-length.ensures.answer ∙ l.invariant.left in
+    let e = payload_refused m l.table l.i l.naming l.at (omega arith) c.in_ok-kind.kind c.in_ok-kind.ensures _ c.in_err-found.ensures.answer ∙ l.invariant.left in
     search rules
 
 pub returns-then-eq : goal.returns-then-eq
 returns-then-eq c =
     let l = c.loop-i in
     let m = c.args.message.now in
-    let n = c.in_ok-length.length in
+    let found = c.in_ok-found.found in
+    let told = c.in_ok-found.ensures.found in
+    let n = found.length in
+    let row : Row = row_of found.code found.slot l.at n in
     let s : c.in_ok-kind.kind ≡ Sign = same_true the_type (search rules) _ _ (sym c.if-eq.ensures) in
     let k : Ok Sign ≡ kind_at (get_or m l.naming 0) l.naming = subst (λ x. Ok x ≡ kind_at (get_or m l.naming 0) l.naming) s c.in_ok-kind.ensures in
-    let r : Ok n ≡ PayloadLength m Sign l.at = subst (λ x. Ok n ≡ PayloadLength m x l.at) s c.in_ok-length.ensures.answer in
-    let row : Row = row_of c.code.result c.number.result l.at n in
-    let is : row ≡ row_of 4 11 l.at n = rw (c.code.ensures, c.number.ensures, c.slot.ensures, s) in
+    let r : Ok n ≡ PayloadLength m Sign l.at = subst (λ x. Ok n ≡ PayloadLength m x l.at) s c.in_ok-found.ensures.answer in
+    let is : row ≡ row_of 4 11 l.at n = rw (told.code, told.slot, s) in
     let e = sign_row m l.table l.i l.naming l.at n _ (omega arith) k r is ∙ l.invariant.left in
     let more = take_more_set l.table l.i row (omega arith) in
     let long = length_push (take l.i l.table) row in
@@ -45,12 +47,14 @@ pub loop-i-preserved : goal.loop-i-preserved
 loop-i-preserved c =
     let l = c.loop-i in
     let m = c.args.message.now in
-    let n = c.in_ok-length.length in
+    let found = c.in_ok-found.found in
+    let told = c.in_ok-found.ensures.found in
+    let n = found.length in
+    let row : Row = row_of found.code found.slot l.at n in
     let k = c.in_ok-kind.kind in
-    let row : Row = row_of c.code.result c.number.result l.at n in
-    let is : row ≡ row_of (code_of k) (slot_of k (get_or m (l.at + 1) 0)) l.at n = rw (c.code.ensures, c.number.ensures, c.slot.ensures, c.byte_at.ensures) in
+    let is : row ≡ row_of (code_of k) (slot_of k (get_or m (l.at + 1) 0)) l.at n = rw (told.code, told.slot) in
     let next = next_row m l.table l.i l.naming l.at (omega arith) k c.in_ok-kind.ensures n row
-    (not_sign k (same_false the_type _ _ (sym c.if-eq.ensures))) c.in_ok-length.ensures.answer is ∙ l.invariant.left in
+    (not_sign k (same_false the_type _ _ (sym c.if-eq.ensures))) c.in_ok-found.ensures.answer is ∙ l.invariant.left in
     let more = take_more_set l.table l.i row (omega arith) in
     search rules
 
