@@ -1,5 +1,6 @@
 pub mod Turns
 pub mod Slots
+pub mod Counting
 pub mod Places
 pub mod Admitted
 pub mod Numerals

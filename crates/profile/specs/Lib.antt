@@ -4,6 +4,7 @@ pub mod Fixed
 pub mod Names
 pub mod Fields
 pub mod Admits
+pub mod Counts
 pub mod Admitting
 pub mod Sheets
 pub mod Parsing

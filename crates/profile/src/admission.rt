@@ -1,10 +1,12 @@
 // What a profile says of a message and its rows.
-ghost use Rattle.std.specs.Prelude.{◌≡◌, ◌<◌, [], ◌∷◌, length, slice_index};
+ghost use Rattle.std.specs.Prelude.{◌≡◌, ◌<◌, [], ◌∷◌, length, slice_index, IfOk};
 ghost use Rattle.wire.specs.Numbered.{field_number};
 ghost use Rattle.profile.specs.Fields.{field};
-ghost use Rattle.profile.specs.Admits.{slots, count};
+ghost use Rattle.profile.specs.Admits.{slots};
+ghost use Rattle.profile.specs.Counts.{Counting};
 ghost use Rattle.profile.specs.Admitting.{taking, header_in, sakke_in, fields_in, slots_in, fitted, fitting, sufficient, sufficing, admitting};
 
+use crate::counts::Counts;
 use crate::interface::Profile;
 use wire::{Field, Kind, Refusal, Row, Slot, byte_at};
 
@@ -71,8 +73,9 @@ impl<P: Profile> Admission<'_, P> {
         self.ask_byte(Field::IdScheme, params + 1)
     }
 
-    // Fields, rank and most count of one payload; answers its rank.
-    fn fit(&self, last: u8, earlier: &[Row], row: &Row) -> Result<u8, Refusal>
+    // Fields, rank and most count of one payload behind earlier ones, which are counted; answers its rank.
+    fn fit(&self, last: u8, earlier: &[Row], counts: &Counts, row: &Row) -> Result<u8, Refusal>
+        requires { Counting (slots_in earlier.now) counts.now.by_slot }
         ensures { result ≡ fitted (P.tables self.now.profile.now) self.now.message.now last earlier.now row.now }
     {
         self.payload(row)?;
@@ -82,27 +85,32 @@ impl<P: Profile> Admission<'_, P> {
         if rank < last {
             return Err(Refusal::RankFalls { start, slot });
         }
-        if tally(earlier, slot) >= usize::from(self.profile.bounds(slot).most) {
+        if counts.reach(slot, self.profile.bounds(slot).most) {
             return Err(Refusal::AboveMost { start, slot });
         }
         Ok(rank)
     }
 
-    fn payloads(&self) -> Result<(), Refusal>
-        ensures { result ≡ fitting (P.tables self.now.profile.now) self.now.message.now 0 [] self.now.rows.now }
+    // Each payload in turn. They are counted on the way.
+    fn payloads(&self, counts: &mut Counts) -> Result<(), Refusal>
+        requires { Counting [] counts.old.by_slot }
+        ensures answer { result ≡ fitting (P.tables self.now.profile.now) self.now.message.now 0 [] self.now.rows.now }
+        ensures counted { IfOk result (λ _. Counting (slots_in self.now.rows.now) counts.new.by_slot) }
     {
         let mut last = 0;
         for (i, row) in self.rows.iter().enumerate() {
-            last = self.fit(last, &self.rows[..i], row)?;
+            last = self.fit(last, &self.rows[..i], counts, row)?;
+            counts.enter(row.slot);
         }
         Ok(())
     }
 
     // The least count of a slot.
-    fn suffice(&self, slot: u8) -> Result<(), Refusal>
+    fn suffice(&self, slot: u8, counts: &Counts) -> Result<(), Refusal>
+        requires { Counting (slots_in self.now.rows.now) counts.now.by_slot }
         ensures { result ≡ sufficient (P.tables self.now.profile.now) (length self.now.message.now) self.now.rows.now slot }
     {
-        if tally(self.rows, slot) < usize::from(self.profile.bounds(slot).least) {
+        if !counts.reach(slot, self.profile.bounds(slot).least) {
             return Err(Refusal::BelowLeast {
                 length: self.message.len(),
                 slot,
@@ -111,21 +119,15 @@ impl<P: Profile> Admission<'_, P> {
         Ok(())
     }
 
-    fn least(&self) -> Result<(), Refusal>
+    fn least(&self, counts: &Counts) -> Result<(), Refusal>
+        requires { Counting (slots_in self.now.rows.now) counts.now.by_slot }
         ensures { result ≡ sufficing (P.tables self.now.profile.now) (length self.now.message.now) self.now.rows.now slots }
     {
         for slot in Slot::T.number()..=Slot::Other.number() {
-            self.suffice(slot)?;
+            self.suffice(slot, counts)?;
         }
         Ok(())
     }
-}
-
-// How many rows have this slot.
-fn tally(rows: &[Row], slot: u8) -> usize
-    ensures { result ≡ count slot (slots_in rows.now) }
-{
-    rows.iter().filter(|row| row.slot == slot).count()
 }
 
 // Whether a profile admits a message, by its bytes and the rows that mark off its payloads.
@@ -138,6 +140,7 @@ pub fn admit<P: Profile>(profile: &P, message: &[u8], rows: &[Row]) -> Result<()
         rows,
     };
     admission.header()?;
-    admission.payloads()?;
-    admission.least()
+    let mut counts = Counts::none();
+    admission.payloads(&mut counts)?;
+    admission.least(&counts)
 }

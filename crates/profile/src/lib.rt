@@ -3,6 +3,7 @@
 
 mod admission;
 mod choice;
+mod counts;
 mod fixed;
 mod interface;
 mod sheet;

@@ -1,5 +1,6 @@
 use Rattle.std.proofs.Common.{◌≡◌, [], take, drop}
-use Rattle.profile.specs.Admitting.{fitting}
+use Rattle.profile.specs.Admitting.{slots_in, fitting}
+use Rattle.profile.specs.Counts.{Counting}
 use Rattle.profile.proofs.admission.Admission.payloads.Given as goal
 
 abbrev pub invariant-loop-i : goal.invariant-loop-i
@@ -7,4 +8,7 @@ invariant-loop-i g l =
     let T = g.P.Profile.tables l.self.profile.now in
     let bs = l.self.message.now in
     let rows = l.self.rows.now in
-    fitting T bs l.last (take l.i rows) (drop l.i rows) ≡ fitting T bs 0 [] rows
+    record {
+      left : fitting T bs l.last (take l.i rows) (drop l.i rows) ≡ fitting T bs 0 [] rows;
+      counted : Counting (slots_in (take l.i rows)) l.counts.by_slot;
+    }
