@@ -1,6 +1,7 @@
 // Where the payloads of a draft stand in its buffer.
 ghost use Rattle.std.specs.Prelude.{◌≡◌, ℕ, ◌<◌, ◌≤◌, length};
-ghost use Rattle.drafter.specs.Spots.{size_at, spot_at};
+ghost use Rattle.wire.specs.Extents.{extent};
+ghost use Rattle.drafter.specs.Spots.{kind_in, size_at, spot_at};
 
 use walk::reach;
 use wire::{Kind, byte_at};
@@ -20,15 +21,30 @@ pub(crate) struct Part {
     pub(crate) next: u8,
 }
 
+// How far the body of a payload of this code reaches. By an arm for each kind, as in a walk: so one jump is left.
+fn reach_of(code: u8, rest: &[u8]) -> usize
+    ensures is { result ≡ extent (kind_in code) rest.now }
+    ensures small { result < 65540 }
+{
+    match Kind::of(code) {
+        Some(Kind::Rand) => reach(Kind::Rand, rest),
+        Some(Kind::Idr) => reach(Kind::Idr, rest),
+        Some(Kind::Sp) => reach(Kind::Sp, rest),
+        Some(Kind::Sakke) => reach(Kind::Sakke, rest),
+        Some(Kind::Ext) => reach(Kind::Ext, rest),
+        Some(Kind::Sign) => reach(Kind::Sign, rest),
+        // No draft holds a code that names nothing.
+        Some(Kind::T) | None => reach(Kind::T, rest),
+    }
+}
+
 // How long the payload at a spot is, with its next-payload byte.
 pub(crate) fn size_at(bytes: &[u8], spot: Spot) -> usize
     requires { spot.at < length bytes.now }
     ensures is { result ≡ size_at bytes.now spot }
     ensures small { result < 65541 }
 {
-    // No draft holds a code that names nothing.
-    let kind = Kind::of(byte_at(bytes, spot.naming)).unwrap_or(Kind::T);
-    1 + reach(kind, &bytes[spot.at + 1..])
+    1 + reach_of(byte_at(bytes, spot.naming), &bytes[spot.at + 1..])
 }
 
 // The spot of the payload at a position, behind a header of so many bytes.
