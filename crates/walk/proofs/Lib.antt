@@ -3,3 +3,4 @@ pub mod Counts
 pub mod Scanning
 pub mod Whole
 pub mod Promises
+pub mod Measured

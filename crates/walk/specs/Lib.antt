@@ -2,3 +2,4 @@ pub mod Scans
 pub mod Walks
 pub mod Parts
 pub mod Times
+pub mod Measures

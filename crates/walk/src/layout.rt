@@ -2,7 +2,9 @@
 ghost use Rattle.std.specs.Prelude.{◌≡◌, ◌+◌, ◌<◌, ◌≤◌, length, slice_index};
 ghost use Rattle.wire.specs.Answers.{map_ok};
 ghost use Rattle.wire.specs.Octets.{value_at};
+ghost use Rattle.wire.specs.Layouts.{Body};
 ghost use Rattle.wire.specs.Extents.{extent, inside, items, one_sakke, body_at};
+ghost use Rattle.walk.specs.Measures.{Measures};
 
 use crate::marked::{Layout, part_length};
 use wire::{Kind, Refusal, byte_at};
@@ -90,7 +92,9 @@ impl Layout for Kind {
 
 // The length of the body at the front, if it is all there and keeps its rule. It belongs to the payload at `at`.
 pub fn body(kind: Kind, at: usize, rest: &[u8]) -> Result<usize, Refusal>
-    ensures { result ≡ map_ok length (body_at kind at rest.now) }
+    ensures answer { result ≡ map_ok length (body_at kind at rest.now) }
+    // The bodies that are measured are those that the layouts draw.
+    ensures drawn { Measures (Body kind) rest.now result }
 {
     part_length(
         &kind,

@@ -1,9 +1,11 @@
 // The sessions of a header's map.
 ghost use Rattle.std.specs.Prelude.{◌≡◌, ◌+◌, ◌<◌, ◌≤◌, length, drop, IfOk};
 ghost use Rattle.wire.specs.Answers.{map_ok};
+ghost use Rattle.wire.specs.Layouts.{Sessions};
 ghost use Rattle.wire.specs.Extents.{policy_count, data_length, session_extent, session_inside};
 ghost use Rattle.wire.specs.Walking.{map_fits};
 ghost use Rattle.wire.specs.Walking.{sessions as sessions_of};
+ghost use Rattle.walk.specs.Measures.{Measures};
 
 use crate::layout::{byte, pair};
 use crate::marked::{Layout, part_length};
@@ -71,7 +73,9 @@ pub(crate) fn sessions(count: u8, from: usize, bytes: &[u8]) -> Result<usize, Re
 
 // How long the sessions at the front of map info are. Places count from its start.
 pub fn info_length(count: u8, info: &[u8]) -> Result<usize, Refusal>
-    ensures { result ≡ map_ok length (sessions_of count 0 info.now) }
+    ensures answer { result ≡ map_ok length (sessions_of count 0 info.now) }
+    // The sessions that are measured are those that the layouts draw.
+    ensures drawn { Measures (Sessions count) info.now result }
 {
     sessions(count, 0, info)
 }
