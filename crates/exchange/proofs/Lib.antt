@@ -6,4 +6,5 @@ pub mod Exactly
 pub mod Listed
 pub mod Redrafted
 pub mod Foretold
+pub mod Taken
 pub mod Promised

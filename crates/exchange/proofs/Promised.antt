@@ -10,6 +10,7 @@ use Rattle.exchange.proofs.Exactly.{exactly}
 use Rattle.exchange.proofs.Holding.{run_reached, begin_reached, delivers}
 use Rattle.exchange.proofs.Again.{again}
 use Rattle.exchange.proofs.Foretold.{foretells}
+use Rattle.exchange.proofs.Taken.{edits_taken, closes_taken}
 
 stays : StaysWithin
 stays buffer cs w =
@@ -25,6 +26,8 @@ promise = record {
   stays_within = stays;
   refused_unchanged = step_still;
   edits_do = step_does;
+  edits_taken = edits_taken;
+  closes_taken = closes_taken;
   close_foretells = foretells;
 }
 

@@ -1,12 +1,12 @@
 -- The whole promise: what is read is exactly what was meant, drafts are as the plain draft, what is delivered is what was held, and what
 -- is read can be drafted again.
-use Rattle.std.specs.Prelude.{◌≡◌, ℕ, ◌≤◌, Bool, true, List, ◌∷◌, ◌++◌, length, take, drop, Some, None, Ok, Err}
-use Rattle.std.specs.List.{AllByRecursion}
+use Rattle.std.specs.Prelude.{◌≡◌, ℕ, ◌<◌, ◌≤◌, Bool, true, List, ◌∷◌, ◌++◌, length, take, drop, Some, None, Ok, Err, Option, slice_set}
+use Rattle.std.specs.List.{insert, AllByRecursion}
 use Rattle.wire.specs.declared.refusal.Refusal.{Refusal}
 use Rattle.wire.specs.Octets.{Octets}
 use Rattle.wire.specs.Refusals.{told}
-use Rattle.wire.specs.Messages.{Header, Message, encode, pieces}
-use Rattle.wire.specs.Lawful.{Lawful}
+use Rattle.wire.specs.Messages.{Header, Payload, Message, encode, pieces}
+use Rattle.wire.specs.Lawful.{LawfulHeader, LawfulPayload, Lawful}
 use Rattle.wire.specs.Rows.{rows, header_length, Tile, MarksOff}
 use Rattle.profile.specs.Tables.{Tables}
 use Rattle.profile.specs.Admits.{Admits}
@@ -14,13 +14,14 @@ use Rattle.verifier.specs.Signed.{Signed, signed_in}
 use Rattle.reader.specs.Reading.{reading}
 use Rattle.reader.specs.Reads.{Good}
 use Rattle.plain.specs.declared.calls.Reply.TheVariants.{Done, Delivered}
-use Rattle.plain.specs.Drafts.{Held, Draft, begin, signed_as, counted, standing, encoded, image}
-use Rattle.plain.specs.Drafts.Stage.{opened, faulty}
-use Rattle.plain.specs.Edits.{Edit, Does}
+use Rattle.plain.specs.Drafts.{Held, Draft, begin, signed_as, bytes_of, counted, standing, encoded, image}
+use Rattle.plain.specs.Drafts.Stage.{opened, signing, faulty}
+use Rattle.plain.specs.Edits.{Edit, Is, Does}
+use Rattle.plain.specs.Edits.Edit.{head, add, replace, remove}
 use Rattle.plain.specs.Steps.{Step, Turn, unsigned, step}
 use Rattle.plain.specs.Steps.Step.{edit, close, sign}
 use Rattle.plain.specs.Turns.{Refusing}
-use Rattle.plain.specs.Kept.{Widths}
+use Rattle.plain.specs.Kept.{EditWidths, Widths}
 use Rattle.exchange.specs.Runs.{end_of, replies_of, in_force, drafting, accepted}
 
 -- a byte string is read exactly if it encodes a lawful message that the profile admits and the verifier passes; no other lawful message
@@ -106,6 +107,50 @@ CloseForetells = (buffer : List ℕ) (cs : List Step) (T : Tables) (V : Signed �
     s.stage ≡ opened → (step (counted buffer) s (close T type n)).draft.stage ≡ faulty f → 14 ≤ (told f).number → (told f).number ≤ 17 →
     Foretold T V s.held type n f
 
+-- a lawful payload of this code and body, and payloads with it that fit the counted bytes
+pub record Offered (counted code : ℕ) (body : List ℕ) (h : Option Header) (after : Payload → List Payload) : Type 0 where
+  pub payload : Payload
+  pub lawful : LawfulPayload payload
+  pub is : Is code body payload
+  pub fits : length (bytes_of h (after payload) None) ≤ counted
+
+abbrev pub Headed : Held → Type 0
+Headed d = (h : Header) × (d.header ≡ Some h)
+
+-- an edit that can be made: of what is lawful, at a position that is there, and with room
+abbrev pub CanEdit : ℕ → Held → Edit → Type 0
+CanEdit counted d (head h) = LawfulHeader h × (length (bytes_of (Some h) d.payloads None) ≤ counted)
+CanEdit counted d (add i code body) = Headed d × ((i ≤ length d.payloads) × ((length d.payloads < 23) × Offered counted code body d.header (λ p. insert d.payloads i p)))
+CanEdit counted d (replace i code body) = Headed d × ((i < length d.payloads) × Offered counted code body d.header (λ p. slice_set d.payloads i p))
+CanEdit counted d (remove i) = Headed d × (i < length d.payloads)
+
+-- an open draft accepts an edit exactly if it can be made
+pub record Takes (counted : ℕ) (s : Draft) (x : Edit) : Type 0 where
+  pub can : CanEdit counted s.held x → (step counted s (edit x)).reply ≡ Done
+  pub only : (step counted s (edit x)).reply ≡ Done → CanEdit counted s.held x
+
+abbrev pub EditsTaken : Type 0
+EditsTaken = (counted : ℕ) (s : Draft) (x : Edit) → EditWidths x → s.stage ≡ opened → Takes counted s x
+
+-- a close that can be made: with a header, a SIGN in its bounds, room for it, and a profile that admits the message with it
+pub record CanClose (counted : ℕ) (d : Held) (T : Tables) (type n : ℕ) : Type 0 where
+  pub header : Header
+  pub has : d.header ≡ Some header
+  pub small : type < 16
+  pub least : 0 < n
+  pub most : n < 4096
+  pub fits : length (encode (signed_as header d.payloads (unsigned type n))) ≤ counted
+  pub admitted : Admits T (signed_as header d.payloads (unsigned type n))
+
+-- SIGN stands after a close exactly if it can be made
+pub record Closes (counted : ℕ) (s : Draft) (T : Tables) (type n : ℕ) : Type 0 where
+  pub can : CanClose counted s.held T type n → (step counted s (close T type n)).draft.stage ≡ signing (unsigned type n) 0
+  pub only : (step counted s (close T type n)).draft.stage ≡ signing (unsigned type n) 0 → CanClose counted s.held T type n
+
+abbrev pub ClosesTaken : Type 0
+ClosesTaken = (buffer : List ℕ) (cs : List Step) (T : Tables) (type n : ℕ) → AllByRecursion Widths cs → (end_of buffer cs).stage ≡ opened
+    → Closes (counted buffer) (end_of buffer cs) T type n
+
 pub record Promise : Type 0 where
   pub read_exactly : ReadExactly
   pub delivers_what_it_holds : DeliversWhatItHolds
@@ -113,4 +158,6 @@ pub record Promise : Type 0 where
   pub stays_within : StaysWithin
   pub refused_unchanged : RefusedUnchanged
   pub edits_do : EditsDo
+  pub edits_taken : EditsTaken
+  pub closes_taken : ClosesTaken
   pub close_foretells : CloseForetells
