@@ -7,7 +7,7 @@ use Rattle.plain.specs.declared.calls.Reply.TheVariants.{Done, Delivered, Releas
 use Rattle.plain.specs.Drafts.{begin, counted, image}
 use Rattle.plain.specs.Edits.Edit.{head, add, remove}
 use Rattle.plain.specs.Steps.{Step, replies, ends}
-use Rattle.plain.specs.Steps.Step.{edit}
+use Rattle.plain.specs.Steps.Step.{edit, sign, withdraw, release}
 
 -- an answer; a refusal by its number, place and detail
 pub data Outcome : Type 0 where
@@ -66,6 +66,14 @@ cases =
     ∷ drafts lent (header ∷ add_rand 17 ∷ []) (done ∷ refused 13 0 0 ∷ []) headed
     -- the ten bytes are as before the add
     ∷ drafts lent (header ∷ add_rand 16 ∷ edit (remove 0) ∷ []) (done ∷ done ∷ done ∷ []) headed
+    -- no header yet
+    ∷ drafts lent (add_rand 16 ∷ edit (remove 0) ∷ []) (refused 19 0 0 ∷ refused 19 0 0 ∷ []) (replicate 30 0)
+    -- no such position
+    ∷ drafts lent (header ∷ edit (remove 0) ∷ []) (done ∷ refused 20 0 0 ∷ []) headed
+    -- 27 bytes have no room for 28
+    ∷ drafts (replicate 27 7) (header ∷ add_rand 16 ∷ []) (done ∷ refused 23 0 0 ∷ []) (header_then 0x00 ++ replicate 17 0)
+    -- what an open draft does not take
+    ∷ drafts lent (header ∷ sign (0 ∷ []) ∷ withdraw ∷ release ∷ []) (done ∷ misplaced ∷ misplaced ∷ misplaced ∷ []) headed
     ∷ []
 
 abbrev pub Tried : Type 0

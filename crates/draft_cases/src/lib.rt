@@ -11,5 +11,5 @@ pub fn tried() -> usize
     ensures count { result ≡ length cases }
     ensures tried { Tried }
 {
-    5
+    9
 }
