@@ -84,13 +84,6 @@ offered o a r f fits held e =
 pub room_left : (counted end n : ℕ) → leb (end + (1 + n)) counted ≡ ltb n (counted - end)
 room_left counted end n = grind (arith, leb_tells)
 
--- a position alone
-pub place_asked : (o : Option Header) (a : Bool) (d : Held)
-    → ◌≡◌ {A = Answer (Unit {0})} (and_then (header_of o) (λ _. check a NoPosition (Ok tt))) (asked (and_then (header_of o) (λ _. check a NoPosition (Ok d))))
-place_asked None a d = refl
-place_asked (Some h) true d = refl
-place_asked (Some h) false d = refl
-
 module _ (c : Core) (w : Shown c) where
   abbrev d : Held
   d = (plain_of c).held

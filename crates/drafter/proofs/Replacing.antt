@@ -5,7 +5,7 @@ use Rattle.std.proofs.lemmas.Bool.{leb-true, ltb-true}
 use Rattle.std.proofs.lemmas.List.{set_split, get_or_at, get_or_append_left}
 use Rattle.std.proofs.lemmas.List.Edits.{length-remove}
 use Rattle.std.proofs.ByRecursion.{All-get_or}
-use Rattle.wire.specs.declared.refusal.Refusal.TheVariants.{NoPosition, NoRoom}
+use Rattle.wire.specs.declared.refusal.Refusal.TheVariants.{NoRoom}
 use Rattle.wire.specs.Octets.{Octets}
 use Rattle.wire.specs.Messages.{Header, Payload, first, payloads_bytes, front}
 use Rattle.wire.specs.Lawful.{LawfulPayload}
@@ -25,7 +25,7 @@ use Rattle.drafter.specs.Spots.{size_at, spot_at}
 use Rattle.drafter.specs.Buffers.{spliced, Placed}
 use Rattle.drafter.specs.Cores.{plain_of, Shown}
 use Rattle.drafter.specs.Edits.{Editable, size_in, placing, asking, Accepted, Leaves}
-use Rattle.drafter.proofs.Asking.{asking_first, offered_asked, offered, room_left, place_asked}
+use Rattle.drafter.proofs.Asking.{asking_first, offered_asked, offered, room_left}
 use Rattle.drafter.proofs.Spotting.{same_front, size_there}
 use Rattle.drafter.proofs.Showing.{ending, end_is}
 use Rattle.drafter.proofs.Located.{records, located}
@@ -71,9 +71,6 @@ module _ (c : Core) (w : Shown c) (i : ℕ) where
 
   place : ltb i c.count ≡ ltb i (length d.payloads)
   place = ap (ltb i) w.count
-
-  pub remove_asked : placing i c.count c ≡ asking (remove i) c
-  remove_asked = ap (λ a. and_then (header_of d.header) (λ _. check {A = Unit {0}} a NoPosition (Ok tt))) place ∙ place_asked d.header (ltb i (length d.payloads)) _
 
   module _ (code : ℕ) (body : List ℕ) where
     abbrev pub replacing : Answer (Unit {0})

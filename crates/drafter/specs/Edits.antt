@@ -1,5 +1,5 @@
 -- What an edit of a draft in its buffer answers and leaves.
-use Rattle.std.specs.Prelude.{◌≡◌, ℕ, ◌+◌, List, take, drop, Ok, nat_lt}
+use Rattle.std.specs.Prelude.{◌≡◌, ℕ, ◌+◌, ◌<◌, ◌≤◌, List, take, drop, Ok, nat_lt}
 use Rattle.wire.specs.declared.refusal.Refusal.TheVariants.{NoPosition}
 use Rattle.wire.specs.Messages.{first}
 use Rattle.wire.specs.Answers.{Answer, check, and_then}
@@ -8,6 +8,7 @@ use Rattle.plain.specs.Edits.{Edit, header_of, editing}
 use Rattle.plain.specs.Steps.{edited}
 use Rattle.drafter.specs.declared.state.Core.{Core}
 use Rattle.drafter.specs.declared.state.Phase.TheVariants as phase
+use Rattle.drafter.specs.declared.spot.Part.{Part}
 use Rattle.drafter.specs.Spots.{size_at, spot_at}
 use Rattle.drafter.specs.Cores.{plain_of, Shown, Becomes}
 
@@ -27,6 +28,13 @@ first_in c = first 0 (plain_of c).held.payloads
 -- the code of what follows the payload at a position, or 0
 abbrev pub next_in : Core → ℕ → ℕ
 next_in c position = first 0 (drop (position + 1) (plain_of c).held.payloads)
+
+-- a part is the payload at a position
+pub record PartAt (c : Core) (position : ℕ) (part : Part) : Type 0 where
+  pub spot : part.spot ≡ spot_at c.header position (take c.end c.buffer.now)
+  pub size : part.size ≡ size_in c position
+  pub next : part.next ≡ next_in c position
+  pub within : (part.spot.naming < part.spot.at) × (part.spot.at + part.size ≤ c.end)
 
 -- what an edit at one of the first so many positions is refused for before all else
 abbrev pub placing : ℕ → ℕ → Core → Answer (Unit {0})

@@ -1,14 +1,16 @@
 // The edits of an open draft.
-ghost use Rattle.std.specs.Prelude.{◌≡◌, ◌+◌, ◌<◌, ◌≤◌, take};
+ghost use Rattle.std.specs.Prelude.{◌≡◌, ◌+◌, ◌<◌, ◌≤◌, take, IfOk, ⊤};
 ghost use Rattle.plain.specs.Edits.{Edit as PlainEdit};
 ghost use Rattle.plain.specs.Edits.Edit.{head as head_edit, add as add_edit, replace as replace_edit, remove as remove_edit};
+ghost use Rattle.plain.specs.Offers.{asked};
 ghost use Rattle.plain.specs.Steps.{headed};
 ghost use Rattle.plain.specs.Kept.{EditWidths};
 ghost use Rattle.plain.specs.Steps.Step.{edit as edit_step};
 ghost use Rattle.plain.specs.Turns.{settled};
+ghost use Rattle.drafter.specs.declared.state.Core.{Core};
 ghost use Rattle.drafter.specs.Spots.{spot_at};
 ghost use Rattle.drafter.specs.Cores.{Shown};
-ghost use Rattle.drafter.specs.Edits.{Editable, size_in, first_in, next_in, placing, asking, Accepted, Leaves};
+ghost use Rattle.drafter.specs.Edits.{Editable, PartAt, first_in, placing, asking, Accepted, Leaves};
 ghost use Rattle.drafter.specs.Calls.{Makes};
 
 use crate::buffer::{place, put_header, take_out};
@@ -23,15 +25,22 @@ const MOST: usize = MOST_PAYLOADS - 1;
 
 // An edit of a draft. It is asked first, and made if it is not refused.
 pub(crate) trait Edit {
+    // What asking finds in the draft and making needs, so that it is looked for once.
+    type Found;
+
     ghost edit: { Self → PlainEdit };
 
-    fn ask(&self, core: &Core<'_>) -> Result<(), Refusal>
-        requires { Editable core.now }
-        ensures { result ≡ asking (edit self.now) core.now };
+    ghost finds: { Self → Core → Self.Found → Type 0 } = { λ _ _ _. ⊤ };
 
-    fn make(&self, core: &mut Core<'_>)
+    fn ask(&self, core: &Core<'_>) -> Result<Self::Found, Refusal>
+        requires { Editable core.now }
+        ensures answer { asked result ≡ asking (edit self.now) core.now }
+        ensures found { IfOk result (finds self.now core.now) };
+
+    fn make(&self, core: &mut Core<'_>, found: Self::Found)
         requires draft { Editable core.old }
         requires asked { Accepted (edit self.now) core.old }
+        requires found { finds self.now core.old found }
         ensures { Leaves (edit self.now) core.old core.new };
 }
 
@@ -64,8 +73,8 @@ impl<'a> Core<'a> {
         requires { Editable self.old }
         ensures { Makes (edit_step (E.edit edit.now)) self.old self.new (settled result) }
     {
-        edit.ask(self)?;
-        edit.make(self);
+        let found = edit.ask(self)?;
+        edit.make(self, found);
         Ok(())
     }
 
@@ -84,10 +93,7 @@ impl<'a> Core<'a> {
     fn part(&self, position: usize) -> Part
         requires draft { Editable self.now }
         requires there { (0 < self.now.header) × (position < self.now.count) }
-        ensures spot { result.spot ≡ spot_at self.now.header position (take self.now.end self.now.buffer.now) }
-        ensures size { result.size ≡ size_in self.now position }
-        ensures next { result.next ≡ next_in self.now position }
-        ensures within { (result.spot.naming < result.spot.at) × (result.spot.at + result.size ≤ self.now.end) }
+        ensures { PartAt self.now position result }
     {
         let spot = self.spot(position);
         let end = self.end;
@@ -130,6 +136,8 @@ impl<'a> Core<'a> {
 }
 
 impl Edit for Add<'_> {
+    type Found = ();
+
     ghost edit = { λ x. add_edit x.position x.code x.body.now };
 
     #[tactic(auto, using(crate::proofs::Asking::add_told, std::proofs::lemmas::Bool::Decides::nat_tests))]
@@ -145,7 +153,7 @@ impl Edit for Add<'_> {
         Ok(())
     }
 
-    fn make(&self, core: &mut Core<'_>) {
+    fn make(&self, core: &mut Core<'_>, _found: ()) {
         octets(self.body);
         let spot = core.spot(self.position);
         let end = core.end;
@@ -161,22 +169,26 @@ impl Edit for Add<'_> {
 }
 
 impl Edit for Replace<'_> {
+    type Found = Part;
+
     ghost edit = { λ x. replace_edit x.position x.code x.body.now };
 
+    ghost finds = { λ x c. PartAt c x.position };
+
     #[tactic(auto, using(crate::proofs::Replacing::replace_told, std::proofs::lemmas::Bool::Decides::nat_tests))]
-    fn ask(&self, core: &Core<'_>) -> Result<(), Refusal> {
+    fn ask(&self, core: &Core<'_>) -> Result<Part, Refusal> {
         core.ask_position(self.position, core.count)?;
         ask_payload(self.code, self.body)?;
-        let others = core.end - core.part(self.position).size;
+        let part = core.part(self.position);
+        let others = core.end - part.size;
         if self.body.len() >= core.counted - others {
             return Err(Refusal::NoRoom);
         }
-        Ok(())
+        Ok(part)
     }
 
-    fn make(&self, core: &mut Core<'_>) {
+    fn make(&self, core: &mut Core<'_>, part: Part) {
         octets(self.body);
-        let part = core.part(self.position);
         let end = core.end;
         place(core.buffer, end, part, self.code, self.body);
         core.end_at(end - part.size + 1 + self.body.len());
@@ -184,14 +196,18 @@ impl Edit for Replace<'_> {
 }
 
 impl Edit for Remove {
+    type Found = Part;
+
     ghost edit = { λ x. remove_edit x.position };
 
-    fn ask(&self, core: &Core<'_>) -> Result<(), Refusal> {
-        core.ask_position(self.position, core.count)
+    ghost finds = { λ x c. PartAt c x.position };
+
+    fn ask(&self, core: &Core<'_>) -> Result<Part, Refusal> {
+        core.ask_position(self.position, core.count)?;
+        Ok(core.part(self.position))
     }
 
-    fn make(&self, core: &mut Core<'_>) {
-        let part = core.part(self.position);
+    fn make(&self, core: &mut Core<'_>, part: Part) {
         let end = core.end;
         take_out(core.buffer, end, part);
         core.count -= 1;
@@ -211,6 +227,8 @@ pub(crate) fn widths(head: &Head<'_>)
 
 // Another header; the payloads stay.
 impl Edit for Head<'_> {
+    type Found = ();
+
     ghost edit = { λ x. head_edit (headed x) };
 
     #[tactic(auto, using(crate::proofs::Heading::head_told))]
@@ -223,7 +241,7 @@ impl Edit for Head<'_> {
         Ok(())
     }
 
-    fn make(&self, core: &mut Core<'_>) {
+    fn make(&self, core: &mut Core<'_>, _found: ()) {
         widths(self);
         let next = core.first();
         let old = core.header;

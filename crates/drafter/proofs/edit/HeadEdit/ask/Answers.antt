@@ -6,5 +6,5 @@ use Rattle.drafter.proofs.edit.HeadEdit.ask.Goals as goal
 pub overflow_sub-room : goal.overflow_sub-room
 overflow_sub-room c = header_within c.args.core.now c.requires
 
-pub returns : goal.returns
-returns c = head_told c.args.core.now c.requires (headed c.args.self.now) (search rules)
+pub returns-clause-answer : goal.returns-clause-answer
+returns-clause-answer c = head_told c.args.core.now c.requires (headed c.args.self.now) (search rules)

@@ -1,6 +1,9 @@
-use Rattle.std.proofs.Common.{◌∙◌}
-use Rattle.drafter.proofs.Replacing.{remove_asked}
+use Rattle.drafter.proofs.Asking.{placed}
+use Rattle.drafter.proofs.Located.{header_some}
 use Rattle.drafter.proofs.edit.RemoveEdit.ask.Goals as goal
 
-pub returns : goal.returns
-returns c = c.ask_position.ensures ∙ remove_asked c.args.core.now c.requires.shown c.args.self.now.position
+pub part-requires : goal.part-requires
+part-requires c =
+    let s = c.args.core.now in
+    let h = placed s c.requires.shown c.args.self.now.position s.count c.in_ok-ask_position.ensures in
+    record { draft = c.requires; there = (header_some s c.requires.shown h.0 h.1.0, h.1.1) }

@@ -9,6 +9,6 @@ returns c =
     let x = c.args.self.now in
     let s = c.args.core.now in
     let n = removal s x.position c.requires.draft.shown c.requires.asked in
-    let p = c.part-part.ensures in
+    let p = c.requires.found in
     subst (Leaves (remove x.position) s) (sym c.end_at.ensures)
-    (deleted_leaves s x.position c.requires.draft n c.part-part.result.spot p.spot c.part-part.result.size _ p.size p.next _ c.take_out.ensures)
+    (deleted_leaves s x.position c.requires.draft n c.args.part.spot p.spot c.args.part.size _ p.size p.next _ c.take_out.ensures)

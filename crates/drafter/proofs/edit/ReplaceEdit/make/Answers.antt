@@ -1,28 +1,20 @@
 use Rattle.std.proofs.Common.{sym, subst, arith}
 use Rattle.plain.specs.Edits.Edit.{replace}
 use Rattle.drafter.specs.Edits.{Leaves}
-use Rattle.drafter.proofs.Located.{header_some}
 use Rattle.drafter.proofs.Replacing.{replacement, changed_leaves}
 use Rattle.drafter.proofs.edit.ReplaceEdit.make.Goals as goal
-
-pub part-part-requires : goal.part-part-requires
-part-part-requires c =
-    let x = c.args.self.now in
-    let w = c.requires.draft.shown in
-    let n = replacement c.args.core.now x.position x.code x.body.now w c.requires.asked in
-    record { draft = c.requires.draft; there = (header_some _ w n.header n.has, n.there) }
 
 pub place-requires : goal.place-requires
 place-requires c =
     let x = c.args.self.now in
     let n = replacement c.args.core.now x.position x.code x.body.now c.requires.draft.shown c.requires.asked in
-    record { part = (omega arith, omega arith); room = (omega arith, omega (arith, n.room, c.part-part.ensures.size)) }
+    record { part = (omega arith, omega arith); room = (omega arith, omega (arith, n.room, c.requires.found.size)) }
 
 pub returns : goal.returns
 returns c =
     let x = c.args.self.now in
     let s = c.args.core.now in
     let n = replacement s x.position x.code x.body.now c.requires.draft.shown c.requires.asked in
-    let p = c.part-part.ensures in
+    let p = c.requires.found in
     subst (Leaves (replace x.position x.code x.body.now) s) (sym c.end_at.ensures)
-    (changed_leaves s x.position x.code x.body.now c.requires.draft n c.part-part.result.spot p.spot c.part-part.result.size _ p.size p.next _ c.place.ensures c.octets.ensures)
+    (changed_leaves s x.position x.code x.body.now c.requires.draft n c.args.part.spot p.spot c.args.part.size _ p.size p.next _ c.place.ensures c.octets.ensures)
