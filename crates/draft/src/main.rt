@@ -3,11 +3,10 @@
 
 mod bytes;
 mod fault;
-mod line;
 mod profiles;
-mod script;
+mod runs;
 
-use script::run;
+use runs::run;
 use std::io;
 
 fn main(rt: HostRuntime) -> anyhow::Result<()> {

@@ -1,11 +1,11 @@
 // Runs a script: a draft in a buffer of its own, and the calls on it, a call a line.
 use crate::bytes::{bytes_of, spelled};
 use crate::fault::Fault;
-use crate::line::{Line, Room, parse};
 use crate::profiles::profile_of;
 use drafter::Draft;
 use plain::{Call, Head, Reply};
 use profile::Choice;
+use script::{Line, Room, parse};
 use std::io;
 use std::iter::Zip;
 use std::ops::RangeInclusive;

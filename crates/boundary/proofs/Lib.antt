@@ -1,0 +1,3 @@
+pub mod Blank
+pub mod Few
+pub mod Set

@@ -1,0 +1,42 @@
+-- What a call across the boundary comes to: its value, a refusal, or a fault of its own; and the numbers that it is told by.
+use Rattle.std.specs.Prelude.{ℕ, cond, Ok, Err, Result, nat_le}
+use Rattle.wire.specs.declared.refusal.Told.{Told}
+use Rattle.wire.specs.Answers.{Answer}
+use Rattle.wire.specs.Refusals.{told}
+use Rattle.boundary.specs.declared.fault.Fault.{Fault}
+use Rattle.boundary.specs.declared.fault.Fault.TheVariants.{Refused, NoProfile, TrustCut}
+
+abbrev pub Outcome : Type 0 → Type 0
+Outcome A = Result A Fault
+
+-- an answer of the library
+abbrev pub outcome_of : {A : Type 0} → Answer A → Outcome A
+outcome_of (Ok a) = Ok a
+outcome_of (Err f) = Err (Refused f)
+
+-- go on with what was found, or fail as it failed
+abbrev pub go_on : {A B : Type 0} → Outcome A → (A → Outcome B) → Outcome B
+go_on (Ok a) next = next a
+go_on (Err f) next = Err f
+
+abbrev pub mapped : {A B : Type 0} → (A → B) → Outcome A → Outcome B
+mapped g (Ok a) = Ok (g a)
+mapped g (Err f) = Err f
+
+abbrev tells : ℕ → ℕ → ℕ → Told
+tells n p d = record { number = n; place = p; detail = d }
+
+-- a refusal has the numbers of the one table; a fault of the boundary has a number of 100 or more
+abbrev pub fault_told : Fault → Told
+fault_told (Refused f) = told f
+fault_told NoProfile = tells 100 0 0
+fault_told (TrustCut place) = tells 101 place 0
+
+-- a number in 32 bits; a greater one is told as the greatest
+abbrev pub narrowed : ℕ → ℕ
+narrowed n = cond (nat_le n 4294967295) n 4294967295
+
+-- what a call returns
+abbrev pub status : {A : Type 0} → Outcome A → ℕ
+status (Ok a) = 0
+status (Err f) = (fault_told f).number

@@ -1,0 +1,13 @@
+// Tests of what crosses to C: rows as bytes, numbers, settings and codes.
+#![tactic(auto)]
+
+#[cfg(test)]
+mod drafts;
+#[cfg(test)]
+mod lines;
+#[cfg(test)]
+mod messages;
+#[cfg(test)]
+mod reads;
+#[cfg(test)]
+mod walks;
