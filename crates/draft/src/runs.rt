@@ -2,7 +2,7 @@
 use crate::bytes::{bytes_of, spelled};
 use crate::fault::Fault;
 use crate::profiles::profile_of;
-use drafter::Draft;
+use drafter::{State, begin};
 use plain::{Call, Head, Reply};
 use profile::Choice;
 use script::{Line, Room, parse};
@@ -29,78 +29,113 @@ fn tell(rt: &HostRuntime, reply: Reply, encoding: &[u8]) -> io::Result<()> {
 // The lines that are left, each with its number.
 type Numbered<'a> = Zip<RangeInclusive<usize>, Lines<'a>>;
 
-// A draft, and where its answers are printed.
-struct Script<'a, 'b> {
-    rt: &'a HostRuntime,
-    draft: Draft<'b>,
+fn told(rt: &HostRuntime, state: &State<'_>, reply: Reply) -> io::Result<()> {
+    tell(rt, reply, state.bytes())
 }
 
-impl Script<'_, '_> {
-    fn tell(&self, reply: Reply) -> io::Result<()> {
-        tell(self.rt, reply, self.draft.bytes())
-    }
+fn make<'a>(
+    rt: &HostRuntime,
+    state: State<'a>,
+    call: &Call<'_, Choice>,
+) -> (State<'a>, Result<(), Fault>) {
+    let (next, reply) = state.call(call);
+    let ended = match told(rt, &next, reply) {
+        Ok(()) => Ok(()),
+        Err(error) => Err(error.into()),
+    };
+    (next, ended)
+}
 
-    fn make(&mut self, call: &Call<'_, Choice>) -> io::Result<()> {
-        let reply = self.draft.call(call);
-        self.tell(reply)
-    }
-
-    // Makes the call of a line with the bytes that it is given.
-    fn make_line(&mut self, line: Line<'_>, bytes: &[u8]) -> Result<(), Fault> {
-        let call = match line {
-            Line::Blank => return Ok(()),
-            Line::Begin(_) => return Ok(self.tell(Reply::Misplaced)?),
-            Line::Head { head, .. } => Call::Head(Head {
-                map_info: bytes,
-                ..head
-            }),
-            Line::Add { position, code, .. } => Call::Add {
-                position,
-                code,
-                body: bytes,
-            },
-            Line::Replace { position, code, .. } => Call::Replace {
-                position,
-                code,
-                body: bytes,
-            },
-            Line::Remove { position } => Call::Remove { position },
-            Line::Close {
-                profile,
+fn close<'a>(
+    rt: &HostRuntime,
+    state: State<'a>,
+    profile: &str,
+    sign_type: u8,
+    length: usize,
+) -> (State<'a>, Result<(), Fault>) {
+    match profile_of(rt, profile) {
+        Ok(profile) => {
+            let call = Call::Close {
+                profile: &profile,
                 sign_type,
                 length,
-            } => return self.close(profile, sign_type, length),
-            Line::Sign(_) => Call::Sign(bytes),
-            Line::Withdraw => Call::Withdraw,
-            Line::Release => Call::Release,
-        };
-        Ok(self.make(&call)?)
+            };
+            make(rt, state, &call)
+        }
+        Err(fault) => (state, Err(fault.into())),
     }
+}
 
-    fn close(&mut self, profile: &str, sign_type: u8, length: usize) -> Result<(), Fault> {
-        let profile = profile_of(self.rt, profile)?;
-        let call = Call::Close {
-            profile: &profile,
+// Makes the call of a line with the bytes that it is given.
+fn make_line<'a>(
+    rt: &HostRuntime,
+    state: State<'a>,
+    line: Line<'_>,
+    bytes: &[u8],
+) -> (State<'a>, Result<(), Fault>) {
+    let call = match line {
+        Line::Blank => return (state, Ok(())),
+        Line::Begin(_) => {
+            let ended = match told(rt, &state, Reply::Misplaced) {
+                Ok(()) => Ok(()),
+                Err(error) => Err(error.into()),
+            };
+            return (state, ended);
+        }
+        Line::Head { head, .. } => Call::Head(Head {
+            map_info: bytes,
+            ..head
+        }),
+        Line::Add { position, code, .. } => Call::Add {
+            position,
+            code,
+            body: bytes,
+        },
+        Line::Replace { position, code, .. } => Call::Replace {
+            position,
+            code,
+            body: bytes,
+        },
+        Line::Remove { position } => Call::Remove { position },
+        Line::Close {
+            profile,
             sign_type,
             length,
-        };
-        Ok(self.make(&call)?)
-    }
+        } => return close(rt, state, profile, sign_type, length),
+        Line::Sign(_) => Call::Sign(bytes),
+        Line::Withdraw => Call::Withdraw,
+        Line::Release => Call::Release,
+    };
+    make(rt, state, &call)
+}
 
-    fn obey(&mut self, text: &str) -> Result<(), Fault> {
-        let line = parse(text).ok_or(Fault::NoCall)?;
-        let bytes = bytes_of(self.rt, line.spelled())?;
-        self.make_line(line, &bytes)
+fn obey<'a>(rt: &HostRuntime, state: State<'a>, text: &str) -> (State<'a>, Result<(), Fault>) {
+    let Some(line) = parse(text) else {
+        return (state, Err(Fault::NoCall));
+    };
+    match bytes_of(rt, line.spelled()) {
+        Ok(bytes) => make_line(rt, state, line, &bytes),
+        Err(error) => (state, Err(error.into())),
     }
+}
 
-    fn obey_all(&mut self, lines: Numbered<'_>) -> anyhow::Result<()> {
-        self.tell(Reply::Done)?;
-        for (number, text) in lines {
-            self.obey(text)
-                .map_err(|fault| fault.at_line(number, text))?;
+fn obey_all<'a>(
+    rt: &HostRuntime,
+    state: State<'a>,
+    lines: Numbered<'_>,
+) -> (State<'a>, anyhow::Result<()>) {
+    if let Err(error) = told(rt, &state, Reply::Done) {
+        return (state, Err(error.into()));
+    }
+    let mut state = state;
+    for (number, text) in lines {
+        let (next, obeyed) = obey(rt, state, text);
+        state = next;
+        if let Err(fault) = obeyed {
+            return (state, Err(fault.at_line(number, text)));
         }
-        Ok(())
     }
+    (state, Ok(()))
 }
 
 // Before begin there is no draft, so that every call is misplaced.
@@ -124,11 +159,8 @@ fn start(rt: &HostRuntime, lines: &mut Numbered<'_>) -> anyhow::Result<Option<Ro
 }
 
 fn draft_by(rt: &HostRuntime, lines: Numbered<'_>, buffer: &mut [u8]) -> anyhow::Result<()> {
-    let draft = Draft::begin(buffer);
-    let mut script = Script { rt, draft };
-    let ended = script.obey_all(lines);
-    let Script { rt: _rt, draft } = script;
-    let _buffer = draft.end();
+    let (state, ended) = obey_all(rt, State::Open(begin(buffer)), lines);
+    let _buffer = state.end();
     ended
 }
 

@@ -1,5 +1,5 @@
 use crate::stations::{HEADER, KEY, RAND, head, holds, sheet};
-use drafter::{Draft, begin};
+use drafter::{State, begin};
 use plain::{Call, Reply};
 use profile::Sheet;
 use wire::Refusal;
@@ -130,15 +130,18 @@ fn released_without_a_signature(rt: HostRuntime) {
 #[test]
 fn a_draft_takes_calls_by_its_state(rt: HostRuntime) {
     let mut buffer = [9u8; 12];
-    let mut draft = Draft::begin(&mut buffer);
+    let state = State::Open(begin(&mut buffer));
     let sign: Call<'_, Sheet> = Call::Sign(&[1]);
-    assert_eq!(rt; draft.call(&sign), Reply::Misplaced);
+    let (state, reply) = state.call(&sign);
+    assert_eq!(rt; reply, Reply::Misplaced);
     let set: Call<'_, Sheet> = Call::Head(head());
     let remove: Call<'_, Sheet> = Call::Remove { position: 0 };
-    assert_eq!(rt; draft.call(&set), Reply::Done);
-    assert_eq!(rt; draft.call(&remove), Reply::Refused(Refusal::NoPosition));
-    assert_eq!(rt; draft.bytes(), [1, 26, 0, 1, 32, 0, 0, 1, 0, 1].as_slice());
-    let left = draft.end();
+    let (state, reply) = state.call(&set);
+    assert_eq!(rt; reply, Reply::Done);
+    let (state, reply) = state.call(&remove);
+    assert_eq!(rt; reply, Reply::Refused(Refusal::NoPosition));
+    assert_eq!(rt; state.bytes(), [1, 26, 0, 1, 32, 0, 0, 1, 0, 1].as_slice());
+    let left = state.end();
     assert_eq!(rt; &*left, [1, 26, 0, 1, 32, 0, 0, 1, 0, 1, 0, 0].as_slice());
 }
 

@@ -1,57 +1,51 @@
 -- A call on a draft, as its caller sees it.
-use Rattle.std.proofs.Common.{◌≡◌, ℕ, ◌≤◌, Bool, true, false, eqb, List, ◌++◌, length, drop, replicate, Ok, Err, sym, refl, ap, ◌∙◌, subst, arith, length-append, length-drop, drop_at}
+use Rattle.std.proofs.Common.{◌≡◌, ℕ, ◌≤◌, Bool, true, false, eqb, List, ◌++◌, length, drop, replicate, Some, None, Ok, Err, sym, refl, ap, ◌∙◌, subst, arith, length-append, length-drop, drop_at}
 use lib.ListN.{length-replicate}
-use Rattle.std.proofs.lemmas.Bool.{false≢true}
+use Rattle.wire.specs.declared.refusal.Refusal.{Refusal}
 use Rattle.wire.specs.Answers.{Answer}
 use Rattle.plain.specs.declared.calls.Reply.{Reply}
-use Rattle.plain.specs.declared.calls.Reply.TheVariants.{Done}
+use Rattle.plain.specs.declared.calls.Reply.TheVariants.{Done, Delivered, Released, Refused}
 use Rattle.profile.specs.Tables.{Tables}
-use Rattle.plain.specs.Drafts.{Held, Sign, Stage, Draft, begin, counted, encoded, image}
+use Rattle.plain.specs.Drafts.{Held, Sign, Draft, begin, counted, standing, encoded, image}
 use Rattle.plain.specs.Drafts.Stage.{opened, signing, faulty, released}
 use Rattle.plain.specs.Offers.{asked}
 use Rattle.plain.specs.Edits.{Edit, editing}
-use Rattle.plain.specs.Steps.{Step, closing, closed, turn, edited, signed, taken, step}
-use Rattle.plain.specs.Steps.Step.{edit, close, sign, withdraw}
+use Rattle.plain.specs.Steps.{Step, unsigned, closing, closed, edited, signed, step}
+use Rattle.plain.specs.Steps.Step.{edit, close, sign, withdraw, release}
 use Rattle.plain.specs.Turns.{settled}
 use Rattle.plain.proofs.Turning.{image_same, turns}
 use Rattle.plain.proofs.Keeping.{begin_kept}
 use Rattle.drafter.specs.declared.state.Core.{Core}
-use Rattle.drafter.specs.declared.state.Phase.TheVariants as phase
-use Rattle.drafter.specs.Cores.{phase_of, Shows, plain_of, Shown, Becomes}
+use Rattle.drafter.specs.declared.state.Outcome.{Outcome}
+use Rattle.drafter.specs.declared.state.Outcome.TheVariants as outcome
+use Rattle.drafter.specs.Cores.{Shows, plain_of, plain_at, sign_now, Shown, Becomes}
 use Rattle.drafter.specs.Edits.{Editable, asking, Leaves}
-use Rattle.drafter.specs.Signs.{At, Follows, is_out, OutDraft}
+use Rattle.drafter.specs.Signs.{Signed, At, OutDraft, out_stage, delivered_by}
 use Rattle.drafter.specs.Calls.{Makes}
-use Rattle.drafter.specs.Views.{view_of, Turned}
-use Rattle.drafter.proofs.Showing.{plain_is, shown}
-use Rattle.drafter.proofs.Opened.{open_stage}
+use Rattle.drafter.specs.Views.{View, view_at, Turned}
+use Rattle.drafter.proofs.Showing.{stage_is, at_is, sign_same, sign_lawful, restaged, shown, shown_at}
+use Rattle.drafter.proofs.Imaging.{stays}
+use Rattle.drafter.proofs.Opened.{opened_shows}
+use Rattle.drafter.proofs.Standing.{signed_shows}
 
 -- one step, and what its caller may say of it
-module _ (c : Step) (before after : Core) (w : Shown before) where
-  abbrev bs : List ℕ
-  bs = before.buffer.now
-
-  pub made_turns : (reply : Reply) → Makes c before after reply → Turned c (view_of before) (view_of after) reply
-  made_turns reply m =
-      let b = m.follows in
-      let s : Draft = (step before.counted (plain_of before) c).draft in
-      let same : plain_of after ≡ s = plain_is s after b.shows in
-      let past = subst (λ k. drop k after.buffer.now ≡ drop k bs) w.counted b.rest in
-      let room : step before.counted (plain_of before) c ≡ step (counted bs) (plain_of before) c = ap (λ n. step n (plain_of before) c) w.counted in
-      record {
-        turns = turns c (plain_of before) (plain_of after) bs after.buffer.now reply (m.answer ∙ ap (λ t. t.reply) room) (same ∙ ap (λ t. t.draft) room)
-            (b.shows.is ∙ image_same after.buffer.now bs s b.long past ∙ ap (image bs) (sym same)) w.is
-            (subst (λ x. length (encoded x) ≤ counted bs) (sym same) (omega (arith, b.shows.kept.fits, b.room, w.counted)));
-        name = b.name;
-      }
-
-pub made_shown : (c : Step) (before after : Core) (reply : Reply) → Makes c before after reply → Shown after
-made_shown c before after reply m = shown _ after m.follows.shows
+pub made_turns : (c : Step) (s t : Draft) (before after : Core) → Shows s before → (reply : Reply) → Makes c s before after reply → t ≡ (step before.counted s c).draft
+    → Turned c (view_at s before) (view_at t after) reply
+made_turns c s t before after w reply m same =
+    let bs : List ℕ = before.buffer.now in
+    let b = m.follows in
+    let x : Draft = (step before.counted s c).draft in
+    let past = subst (λ k. drop k after.buffer.now ≡ drop k bs) w.counted b.rest in
+    let room : step before.counted s c ≡ step (counted bs) s c = ap (λ n. step n s c) w.counted in
+    record {
+      turns = turns c s t bs after.buffer.now reply (m.answer ∙ ap (λ t. t.reply) room) (same ∙ ap (λ t. t.draft) room)
+          (b.shows.is ∙ image_same after.buffer.now bs x b.long past ∙ ap (image bs) (sym same)) w.is
+          (subst (λ x. length (encoded x) ≤ counted bs) (sym same) (omega (arith, b.shows.kept.fits, b.room, w.counted)));
+      name = b.name;
+    }
 
 -- an edit of an open draft
 module _ (c : Core) (w : Editable c) (x : Edit) where
-  edit_step : step c.counted (plain_of c) (edit x) ≡ edited (plain_of c).held (editing c.counted (plain_of c).held x)
-  edit_step = ap (λ g. step c.counted (record { held = (plain_of c).held; stage = g }) (edit x)) (open_stage c w)
-
   told : (d : Held) (r : Answer Held) → settled (asked r) ≡ (edited d r).reply
   told d (Ok e) = refl
   told d (Err f) = refl
@@ -60,25 +54,26 @@ module _ (c : Core) (w : Editable c) (x : Edit) where
   stays_open d (Ok e) = refl
   stays_open d (Err f) = refl
 
-  pub edit_made : (after : Core) (r : Answer (Unit {0})) → r ≡ asking x c → Leaves x c after → Makes (edit x) c after (settled r)
-  edit_made after r e b = record {
-    answer = ap settled e ∙ told (plain_of c).held (editing c.counted (plain_of c).held x) ∙ sym (ap (λ t. t.reply) edit_step);
-    follows = subst (λ t. Becomes t.draft c after) (sym edit_step) b;
-  }
+  pub edit_made : (after : Core) (r : Answer (Unit {0})) → r ≡ asking x c → Leaves x c after → Makes (edit x) (plain_at opened c) c after (settled r)
+  edit_made after r e b = record { answer = ap settled e ∙ told (plain_of c).held (editing c.counted (plain_of c).held x); follows = b }
 
-  pub edit_open : (after : Core) (reply : Reply) → Makes (edit x) c after reply → Editable after
-  edit_open after reply m = record {
-    shown = made_shown (edit x) c after reply m;
-    open' = m.follows.shows.phase ∙ ap phase_of (ap (λ t. t.draft.stage) edit_step ∙ stays_open (plain_of c).held (editing c.counted (plain_of c).held x));
-  }
+  module _ (after : Core) (reply : Reply) (m : Makes (edit x) (plain_at opened c) c after reply) where
+    still : (step c.counted (plain_at opened c) (edit x)).draft.stage ≡ opened
+    still = stays_open (plain_of c).held (editing c.counted (plain_of c).held x)
+
+    pub edit_open : Editable after
+    edit_open = record { shown = shown _ after m.follows.shows; open' = stage_is _ after m.follows.shows ∙ ap (λ g. released (standing g)) still }
+
+    pub edit_turns : Turned (edit x) (view_at (plain_at opened c) c) (view_at (plain_at opened after) after) reply
+    edit_turns = made_turns (edit x) (plain_at opened c) (plain_at opened after) c after (opened_shows c w) reply m (at_is _ after m.follows.shows opened still)
 
 -- a buffer of which the counted bytes are zeros
 pub begun_image : (bs after : List ℕ) (n : ℕ) → n ≡ counted bs → after ≡ replicate n 0 ++ drop n bs → after ≡ image bs begin
 begun_image bs after n e b = b ∙ ap (λ k. replicate k 0 ++ drop k bs) e ∙ ap (λ k. replicate k 0 ++ drop (counted bs) bs) (omega arith)
 
 pub begun_shows : (c : Core) (bs : List ℕ) (n : ℕ) → n ≡ counted bs → c.buffer.now ≡ replicate n 0 ++ drop n bs → c.counted ≡ n → c.header ≡ 0 → c.count ≡ 0 → c.end ≡ 0
-    → c.full ≡ 0 → c.phase ≡ phase.Open → Shows begin c
-begun_shows c bs n e b counts header count end full open' =
+    → c.full ≡ 0 → Shows begin c
+begun_shows c bs n e b counts header count end full =
     let zeros : List ℕ = replicate n 0 in
     let k : length zeros ≡ n = length-replicate n 0 in
     let long : length c.buffer.now ≡ length bs = omega (arith, ap length b, length-append zeros (drop n bs), length-drop n bs) in
@@ -91,52 +86,115 @@ begun_shows c bs n e b counts header count end full open' =
       count = count;
       end = end;
       full = full;
-      phase = open';
       is = begun_image c.buffer.now c.buffer.now n m (b ∙ ap (λ x. zeros ++ x) (sym rest));
     }
 
+-- a draft where SIGN stands, by what it shows
+module _ (s : Draft) (c : Core) (w : Shows s c) (y : Sign) (l : ℕ) (e : s.stage ≡ signing y l) where
+  sign_stands : sign_now c ≡ y
+  sign_stands = let k : standing s.stage ≡ Some y = ap standing e in sign_same s c w y k (sign_lawful s c w y k)
+
+  pub signing_is : plain_at (signing (sign_now c) l) c ≡ s
+  signing_is = ap (λ x. plain_at (signing x l) c) sign_stands ∙ at_is s c w (signing y l) e
+
+  pub signing_signed : Signed c
+  signing_signed = record { shown = shown s c w; out = stage_is s c w ∙ ap (λ g. released (standing g)) e ∙ ap (λ x. released (Some x)) (sym sign_stands) }
+
+-- and one that is open again
+pub fall_open : (c after : Core) → At opened c after → Editable after
+fall_open c after b = record { shown = shown _ after b.shows; open' = stage_is _ after b.shows }
+
 -- a draft that is closed
-module _ (c : Core) (w : Editable c) (T : Tables) (type n : ℕ) where
-  abbrev stage : Stage
-  stage = closed type n (closing c.counted (plain_of c).held T type n)
+module _ (c : Core) (w : Editable c) (T : Tables) (type n : ℕ) (after : Core) where
+  abbrev closes : Answer (Unit {0})
+  closes = closing c.counted (plain_of c).held T type n
 
-  close_step : step c.counted (plain_of c) (close T type n) ≡ turn (plain_of c).held stage Done
-  close_step = ap (λ g. step c.counted (record { held = (plain_of c).held; stage = g }) (close T type n)) (open_stage c w)
+  abbrev opens : View
+  opens = view_at (plain_at opened c) c
 
-  closed_out : (r : Answer (Unit {0})) → is_out (phase_of (closed type n r)) ≡ true
-  closed_out (Ok u) = refl
-  closed_out (Err f) = refl
+  pub close_signed : At (signing (unsigned type n) 0) c after → Signed after
+  close_signed b = signing_signed _ after b.shows (unsigned type n) 0 refl
 
-  pub close_out : (after : Core) → At stage c after → OutDraft after
-  close_out after b = record { shown = shown _ after b.shows; out = ap is_out b.shows.phase ∙ closed_out (closing c.counted (plain_of c).held T type n) }
+  pub close_signs : (r : Answer (Unit {0})) → r ≡ Ok tt → r ≡ closes → At (signing (unsigned type n) 0) c after
+      → Turned (close T type n) opens (view_at (plain_at (signing (sign_now after) 0) after) after) Done
+  close_signs r o e b =
+      let is : plain_at (closed type n closes) c ≡ plain_at (signing (unsigned type n) 0) c = ap (λ x. plain_at (closed type n x) c) (sym e ∙ o) in
+      made_turns (close T type n) (plain_at opened c) _ c after (opened_shows c w) Done (record { answer = refl; follows = subst (λ s. Becomes s c after) (sym is) b })
+      (signing_is _ after b.shows (unsigned type n) 0 refl ∙ sym is)
 
-  pub close_made : (after : Core) → At stage c after → Makes (close T type n) c after Done
-  close_made after b = record { answer = sym (ap (λ t. t.reply) close_step); follows = subst (λ t. Becomes t.draft c after) (sym close_step) b }
+  pub close_faults : (f : Refusal) (r : Answer (Unit {0})) → r ≡ Err f → r ≡ closes → At opened c after
+      → Turned (close T type n) opens (view_at (plain_at (faulty f) after) after) Done
+  close_faults f r o e b =
+      let is : plain_at (closed type n closes) c ≡ plain_at (faulty f) c = ap (λ x. plain_at (closed type n x) c) (sym e ∙ o) in
+      let shows : Shows (plain_at (faulty f) c) after = restaged (plain_of c).held opened (faulty f) after refl b.shows in
+      made_turns (close T type n) (plain_at opened c) _ c after (opened_shows c w) Done
+      (record { answer = refl; follows = subst (λ s. Becomes s c after) (sym is) (record { shows = shows; name = b.name; room = b.room; long = b.long; rest = b.rest }) })
+      (at_is _ after shows (faulty f) refl ∙ sym is)
 
--- a draft that is out
-module _ (n : ℕ) (d : Held) where
-  signed_stays : (g : Sign) (l : ℕ) (s : List ℕ) (b : Bool) → is_out (phase_of (signed d g l s b).draft.stage) ≡ true
-  signed_stays g l s true = refl
-  signed_stays g l s false = refl
+-- a draft that is out, signed
+module _ (d : Held) (g : Sign) (l : ℕ) (s : List ℕ) where
+  delivered_stage : (n : ℕ) (b : Bool) → Delivered n ≡ (signed d g l s b).reply → (signed d g l s b).draft.stage ≡ signing (record { type = g.type; signature = s }) n
+  delivered_stage n true e = ap (signing (record { type = g.type; signature = s })) (cc)
+  delivered_stage n false e = cc
 
-  sign_stays : (g : Stage) (s : List ℕ) → is_out (phase_of g) ≡ true → is_out (phase_of (taken n d g (sign s)).draft.stage) ≡ true
-  sign_stays opened s e = absurd (false≢true e)
-  sign_stays (signing g l) s e = signed_stays g l s (eqb (length s) (length g.signature))
-  sign_stays (faulty f) s e = refl
-  sign_stays (released g) s e = absurd (false≢true e)
+  refused_stage : (f : Refusal) (b : Bool) → Refused f ≡ (signed d g l s b).reply → (signed d g l s b).draft.stage ≡ signing g l
+  refused_stage f true e = cc
+  refused_stage f false e = refl
 
-  withdraw_done : (g : Stage) → is_out (phase_of g) ≡ true → Done ≡ (taken n d g withdraw).reply
-  withdraw_done opened e = absurd (false≢true e)
-  withdraw_done (signing g l) e = refl
-  withdraw_done (faulty f) e = refl
-  withdraw_done (released g) e = absurd (false≢true e)
+module _ (c : Core) (w : Signed c) (l : ℕ) (s : List ℕ) (after : Core) where
+  abbrev out : Draft
+  out = plain_at (signing (sign_now c) l) c
 
-module _ (c : Core) (w : OutDraft c) where
-  stage_out : is_out (phase_of (plain_of c).stage) ≡ true
-  stage_out = ap is_out (sym w.shown.phase) ∙ w.out
+  module _ (reply : Reply) (m : Makes (sign s) out c after reply) where
+    abbrev same : Bool
+    same = eqb (length s) (length (sign_now c).signature)
 
-  pub sign_out : (after : Core) (s : List ℕ) → Follows (sign s) c after → OutDraft after
-  sign_out after s b = record { shown = shown _ after b.shows; out = ap is_out b.shows.phase ∙ sign_stays c.counted (plain_of c).held (plain_of c).stage s stage_out }
+    delivers : (n : ℕ) → reply ≡ Delivered n → (step c.counted out (sign s)).draft.stage ≡ signing (record { type = (sign_now c).type; signature = s }) n
+    delivers n e = delivered_stage (plain_of c).held (sign_now c) l s n same (sym e ∙ m.answer)
 
-  pub withdraw_made : (after : Core) → Follows withdraw c after → Makes withdraw c after Done
-  withdraw_made after b = record { answer = withdraw_done c.counted (plain_of c).held (plain_of c).stage stage_out; follows = b }
+    pub sign_signed : (n : ℕ) → reply ≡ Delivered n → Signed after
+    sign_signed n e = signing_signed _ after m.follows.shows _ n (delivers n e)
+
+    pub sign_delivers : (n : ℕ) → reply ≡ Delivered n → Turned (sign s) (view_at out c) (view_at (plain_at (signing (sign_now after) n) after) after) reply
+    sign_delivers n e = made_turns (sign s) out _ c after (signed_shows c w l) reply m (signing_is _ after m.follows.shows _ n (delivers n e))
+
+    refuses : (f : Refusal) → reply ≡ Refused f → (step c.counted out (sign s)).draft.stage ≡ signing (sign_now c) l
+    refuses f e = refused_stage (plain_of c).held (sign_now c) l s f same (sym e ∙ m.answer)
+
+    pub sign_still : (f : Refusal) → reply ≡ Refused f → Signed after
+    sign_still f e = signing_signed _ after m.follows.shows _ l (refuses f e)
+
+    pub sign_refuses : (f : Refusal) → reply ≡ Refused f → Turned (sign s) (view_at out c) (view_at (plain_at (signing (sign_now after) l) after) after) reply
+    sign_refuses f e = made_turns (sign s) out _ c after (signed_shows c w l) reply m (signing_is _ after m.follows.shows _ l (refuses f e))
+
+pub withdraw_falls : (c : Core) (w : Signed c) (l : ℕ) (after : Core) → At opened c after
+    → Turned withdraw (view_at (plain_at (signing (sign_now c) l) c) c) (view_at (plain_at opened after) after) Done
+withdraw_falls c w l after b = made_turns withdraw _ _ c after (signed_shows c w l) Done (record { answer = refl; follows = b }) (at_is _ after b.shows opened refl)
+
+-- with a fault
+module _ (c : Core) (w : Editable c) (f : Refusal) where
+  abbrev carried : Draft
+  carried = plain_at (faulty f) c
+
+  faulty_shows : Shows carried c
+  faulty_shows = shown_at (faulty f) c w.open' w.shown
+
+  pub sign_told : (s : List ℕ) → Turned (sign s) (view_at carried c) (view_at carried c) (Refused f)
+  sign_told s = made_turns (sign s) carried carried c c faulty_shows (Refused f) (record { answer = refl; follows = stays carried c faulty_shows }) refl
+
+  pub withdraw_clears : Turned withdraw (view_at carried c) (view_at (plain_at opened c) c) Done
+  withdraw_clears = made_turns withdraw carried _ c c faulty_shows Done (record { answer = refl; follows = stays _ c (opened_shows c w) }) refl
+
+-- released
+pub out_shown : (o : Outcome) (c : Core) → OutDraft o c → Shown c
+out_shown (outcome.Signing l) c w = w.shown
+out_shown (outcome.Faulty f) c w = w.shown
+
+pub release_turns : (o : Outcome) (c : Core) → OutDraft o c → Turned release (view_at (plain_at (out_stage o c) c) c) (view_at (plain_of c) c) (Released (delivered_by o))
+release_turns (outcome.Signing l) c w =
+    let is : plain_of c ≡ plain_at (released (Some (sign_now c))) c = ap (λ g. plain_at g c) w.out in
+    made_turns release (plain_at (signing (sign_now c) l) c) _ c c (signed_shows c w l) (Released l)
+    (record { answer = refl; follows = stays _ c (subst (λ s. Shows s c) is w.shown) }) is
+release_turns (outcome.Faulty f) c w =
+    let is : plain_of c ≡ plain_at (released None) c = ap (λ g. plain_at g c) w.open' in
+    made_turns release (plain_at (faulty f) c) _ c c (faulty_shows c w f) (Released 0) (record { answer = refl; follows = stays _ c (subst (λ s. Shows s c) is w.shown) }) is

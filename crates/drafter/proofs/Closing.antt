@@ -11,7 +11,7 @@ use Rattle.wire.proofs.Answers.{never_ok, same_err}
 use Rattle.profile.specs.Tables.{Tables}
 use Rattle.profile.specs.Admitting.{admitting}
 use Rattle.plain.specs.Drafts.{Held, signed_as}
-use Rattle.plain.specs.Drafts.Stage.{opened, signing}
+use Rattle.plain.specs.Drafts.Stage.{opened, signing, released}
 use Rattle.plain.specs.Edits.{header_of}
 use Rattle.plain.specs.Steps.{sign_fits, unsigned, closing}
 use Rattle.plain.proofs.Keeping.{closable}
@@ -19,7 +19,7 @@ use Rattle.drafter.specs.declared.state.Core.{Core}
 use Rattle.drafter.specs.Cores.{Shows, sign_in, plain_of}
 use Rattle.drafter.specs.Edits.{Editable}
 use Rattle.drafter.specs.Signs.{Signed, At, message_in, AdmitsBy, standable}
-use Rattle.drafter.proofs.Showing.{plain_is, shown, end_is, sign_same, sign_lawful}
+use Rattle.drafter.proofs.Showing.{plain_is, stage_is, shown, end_is, sign_same, sign_lawful}
 use Rattle.drafter.proofs.Opened.{end_counted}
 use Rattle.drafter.proofs.Standing.{encode_long}
 
@@ -83,14 +83,14 @@ module _ (c : Core) (w : Editable c) (type n : ℕ) where
 
 -- SIGN stands: the draft in between
 module _ (c during : Core) (w : Editable c) (type n : ℕ) (t : At (signing (unsigned type n) 0) c during) where
-  between : plain_of during ≡ record { held = (plain_of c).held; stage = signing (unsigned type n) 0 }
+  between : plain_of during ≡ record { held = (plain_of c).held; stage = released (Some (unsigned type n)) }
   between = plain_is _ during t.shows
 
-  pub during_signed : Signed during
-  during_signed = record { shown = shown _ during t.shows; delivered = 0; out = t.shows.phase }
-
-  sign_is : sign_in during.end during.full during.buffer.now ≡ unsigned type n
+  pub sign_is : sign_in during.end during.full during.buffer.now ≡ unsigned type n
   sign_is = sign_same _ during t.shows (unsigned type n) refl (sign_lawful _ during t.shows (unsigned type n) refl)
+
+  pub during_signed : Signed during
+  during_signed = record { shown = shown _ during t.shows; out = stage_is _ during t.shows ∙ ap (λ x. released (Some x)) (sym sign_is) }
 
   module _ (T : Tables) (s : Stands c w type n) (r : Answer (Unit {0})) (a : AdmitsBy T during r) where
     closing_told : r ≡ closing c.counted (plain_of c).held T type n

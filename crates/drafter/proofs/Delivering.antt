@@ -13,35 +13,34 @@ use Rattle.plain.specs.Steps.Step.{sign}
 use Rattle.plain.specs.Kept.{Kept}
 use Rattle.plain.proofs.Keeping.{same_length, step_kept}
 use Rattle.drafter.specs.declared.state.Core.{Core}
-use Rattle.drafter.specs.declared.state.Phase.TheVariants as phase
 use Rattle.drafter.specs.Buffers.{laid}
-use Rattle.drafter.specs.Cores.{Shows, plain_of, Becomes}
-use Rattle.drafter.specs.Signs.{Signed, Follows}
+use Rattle.drafter.specs.Cores.{Shows, plain_of, plain_at, Becomes}
+use Rattle.drafter.specs.Signs.{Signed}
 use Rattle.drafter.proofs.Spotting.{same_front}
 use Rattle.drafter.proofs.Showing.{end_is}
 use Rattle.drafter.proofs.Imaging.{rewritten_becomes, stays}
-use Rattle.drafter.proofs.Standing.{g, signed_stage, signed_head, signed_some, signed_full, signed_lies}
+use Rattle.drafter.proofs.Standing.{g, signed_shows, signed_head, signed_some, signed_full, signed_lies}
 
-module _ (c : Core) (w : Signed c) (signature : List ℕ) where
+module _ (c : Core) (w : Signed c) (signature : List ℕ) (l : ℕ) where
   abbrev held : Sign
   held = g c w
 
-  plain : plain_of c ≡ record { held = (plain_of c).held; stage = signing held w.delivered }
-  plain = ap (λ x. record { held = (plain_of c).held; stage = x }) (signed_stage c w)
+  abbrev plain : Draft
+  plain = plain_at (signing held l) c
 
-  step_is : (b : Bool) → eqb (length signature) (length held.signature) ≡ b → step c.counted (plain_of c) (sign signature) ≡ signed (plain_of c).held held w.delivered signature b
-  step_is b e = ap (λ s. step c.counted s (sign signature)) plain ∙ ap (signed (plain_of c).held held w.delivered signature) e
+  step_is : (b : Bool) → eqb (length signature) (length held.signature) ≡ b → step c.counted plain (sign signature) ≡ signed (plain_of c).held held l signature b
+  step_is b e = ap (signed (plain_of c).held held l signature) e
 
   -- of another length
   module _ (other : length signature ≡ length held.signature → ⊥) where
-    apart : step c.counted (plain_of c) (sign signature) ≡ signed (plain_of c).held held w.delivered signature false
+    apart : step c.counted plain (sign signature) ≡ signed (plain_of c).held held l signature false
     apart = step_is false (ne_eqb _ _ other)
 
-    pub other_reply : Refused SignatureLength ≡ (step c.counted (plain_of c) (sign signature)).reply
+    pub other_reply : Refused SignatureLength ≡ (step c.counted plain (sign signature)).reply
     other_reply = sym (ap (λ t. t.reply) apart)
 
-    pub other_follows : Follows (sign signature) c c
-    other_follows = stays _ c (subst (λ s. Shows s c) (plain ∙ sym (ap (λ t. t.draft) apart)) w.shown)
+    pub other_follows : Becomes (step c.counted plain (sign signature)).draft c c
+    other_follows = stays _ c (subst (λ s. Shows s c) (sym (ap (λ t. t.draft) apart)) (signed_shows c w l))
 
   -- of the right length
   module _ (y : Octets signature) (same : length signature ≡ length held.signature) where
@@ -57,10 +56,10 @@ module _ (c : Core) (w : Signed c) (signature : List ℕ) where
     bytes_long : length (bytes_of (plain_of c).held.header ps (Some new)) ≡ c.full
     bytes_long = ap (λ o. length (bytes_of o ps (Some new))) (signed_some c w) ∙ long
 
-    right : step c.counted (plain_of c) (sign signature) ≡ signed (plain_of c).held held w.delivered signature true
+    right : step c.counted plain (sign signature) ≡ signed (plain_of c).held held l signature true
     right = step_is true (eq-eqb _ _ same)
 
-    pub right_reply : Delivered c.full ≡ (step c.counted (plain_of c) (sign signature)).reply
+    pub right_reply : Delivered c.full ≡ (step c.counted plain (sign signature)).reply
     right_reply = ap Delivered (sym bytes_long) ∙ sym (ap (λ t. t.reply) right)
 
     abbrev target : Draft
@@ -90,10 +89,10 @@ module _ (c : Core) (w : Signed c) (signature : List ℕ) where
         ∙ ap (λ z. z ++ rest (length (encode (signed_as h ps new)))) (append_assoc (front 4 h ps) (sign_length held.type signature) signature)
 
     pub right_follows : (bs : List ℕ) → bs ≡ laid (c.end + 2) signature c.buffer.now
-        → Follows (sign signature) c (record c { buffer = record c.buffer { now = bs }; phase = phase.Signing c.full })
+        → Becomes (step c.counted plain (sign signature)).draft c (record c { buffer = record c.buffer { now = bs } })
     right_follows bs bytes =
-        let after : Core = record c { buffer = record c.buffer { now = bs }; phase = phase.Signing c.full } in
-        let kept = subst (λ t. Kept c.counted t.draft) right (step_kept c.counted (plain_of c) (sign signature) y w.shown.kept) in
+        let after : Core = record c { buffer = record c.buffer { now = bs } } in
+        let kept = subst (λ t. Kept c.counted t.draft) right (step_kept c.counted plain (sign signature) y (signed_shows c w l).kept) in
         subst (λ t. Becomes t.draft c after) (sym right) (rewritten_becomes (plain_of c) target c after w.shown kept (record {
           counted = refl;
           name = refl;
@@ -101,7 +100,6 @@ module _ (c : Core) (w : Signed c) (signature : List ℕ) where
           count = w.shown.count;
           end = w.shown.end;
           full = sym bytes_long;
-          phase = ap phase.Signing (sym bytes_long);
           bytes = bytes ∙ written
               ∙ ap (λ o. bytes_of o ps (Some new) ++ (replicate (c.counted - length (bytes_of o ps (Some new))) 0 ++ drop c.counted c.buffer.now)) (sym (signed_some c w));
         }))

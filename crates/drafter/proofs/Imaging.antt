@@ -13,7 +13,7 @@ use Rattle.plain.proofs.Keeping.{editing_sound, open_kept}
 use Rattle.plain.proofs.Joints.{front_append, payloads_append, naming_of, naming_within, renamed}
 use Rattle.drafter.specs.declared.state.Core.{Core}
 use Rattle.drafter.specs.Buffers.{Used, spliced}
-use Rattle.drafter.specs.Cores.{phase_of, header_size, Shows, plain_of, Becomes}
+use Rattle.drafter.specs.Cores.{header_size, Shows, plain_of, Becomes}
 use Rattle.drafter.specs.Edits.{Editable, Leaves}
 use Rattle.drafter.proofs.Spotting.{same_front}
 
@@ -140,7 +140,6 @@ pub record Rewritten (before after : Core) (s : Draft) : Type 0 where
   pub count : after.count ≡ length s.held.payloads
   pub end : after.end ≡ length (bytes_of s.held.header s.held.payloads None)
   pub full : after.full ≡ length (encoded s)
-  pub phase : after.phase ≡ phase_of s.stage
   pub bytes : after.buffer.now ≡ encoded s ++ (replicate (before.counted - length (encoded s)) 0 ++ drop before.counted before.buffer.now)
 
 pub rewritten_becomes : (s t : Draft) (before after : Core) → Shows s before → Kept before.counted t → Rewritten before after t → Becomes t before after
@@ -157,7 +156,6 @@ rewritten_becomes s t before after w k n =
         count = n.count;
         end = n.end;
         full = n.full;
-        phase = n.phase;
         is = subst (λ x. Lies x (encoded t) after.buffer.now) m l.0;
       };
       name = n.name;
@@ -186,6 +184,5 @@ edit_leaves c x e bs header count end w y q headed counts ends bytes =
       count = counts;
       end = ends;
       full = ends;
-      phase = w.open';
       bytes = bytes;
     }))

@@ -1,5 +1,5 @@
 -- The buffer of an open draft.
-use Rattle.std.proofs.Common.{◌≡◌, ℕ, ◌≤◌, ltb, List, ◌++◌, length, get_or, take, drop, Some, None, Err, sym, ap, ◌∙◌, subst, ap₂, arith, take-append-drop}
+use Rattle.std.proofs.Common.{◌≡◌, ℕ, ◌≤◌, List, ◌++◌, length, get_or, take, drop, Some, None, Err, sym, ap, ◌∙◌, subst, ap₂, arith, take-append-drop}
 use Rattle.std.proofs.lemmas.List.{get_or_append_left}
 use Rattle.wire.specs.declared.refusal.Refusal.{Refusal}
 use Rattle.wire.specs.Messages.{Header, Payload, first, payloads_bytes, front}
@@ -13,10 +13,10 @@ use Rattle.drafter.specs.declared.state.Core.{Core}
 use Rattle.drafter.specs.declared.spot.Spot.{Spot}
 use Rattle.drafter.specs.Spots.{spot_at}
 use Rattle.drafter.specs.Buffers.{Used}
-use Rattle.drafter.specs.Cores.{Shows, sign_in, stage_in, plain_of, Becomes}
+use Rattle.drafter.specs.Cores.{Shows, plain_of, plain_at, Becomes}
 use Rattle.drafter.specs.Edits.{Editable, asking, Leaves}
 use Rattle.drafter.proofs.Spotting.{spot_behind}
-use Rattle.drafter.proofs.Showing.{end_is}
+use Rattle.drafter.proofs.Showing.{end_is, shown_at}
 use Rattle.drafter.proofs.Located.{located, spot_bounds}
 use Rattle.drafter.proofs.Imaging.{Lies, lies_used, stays}
 
@@ -27,13 +27,12 @@ module _ (c : Core) (w : Editable c) where
   abbrev bs : List ℕ
   bs = c.buffer.now
 
-  pub open_stage : (plain_of c).stage ≡ opened
-  unfolding plain_of
-  open_stage = ap (λ x. stage_in x (sign_in c.end c.full bs) (ltb c.end c.full)) w.open'
+  pub opened_shows : Shows (plain_at opened c) c
+  opened_shows = shown_at opened c w.open' w.shown
 
   pub open_lies : Lies c.counted (bytes_of d.header d.payloads None) bs
   open_lies =
-      let one : bs ≡ image bs (record { held = d; stage = opened }) = w.shown.is ∙ ap (λ g. image bs (record { held = d; stage = g })) open_stage in
+      let one : bs ≡ image bs (record { held = d; stage = opened }) = opened_shows.is in
       subst (λ n. Lies n (bytes_of d.header d.payloads None) bs) (sym w.shown.counted) one
 
   pub counted_within : c.counted ≤ length bs
@@ -75,5 +74,4 @@ module _ (c : Core) (w : Editable c) where
   pub refused_leaves : (x : Edit) (f : Refusal) → Err f ≡ asking x c → Leaves x c c
   refused_leaves x f e =
       let q : editing c.counted d x ≡ Err f = refused (editing c.counted d x) (λ _. tt) f e in
-      let same : plain_of c ≡ record { held = d; stage = opened } = ap (λ g. record { held = d; stage = g }) open_stage in
-      subst (λ r. Becomes (edited d r).draft c c) (sym q) (stays _ c (subst (λ s. Shows s c) same w.shown))
+      subst (λ r. Becomes (edited d r).draft c c) (sym q) (stays _ c opened_shows)

@@ -1,5 +1,5 @@
 -- A draft in its buffer is one plain draft.
-use Rattle.std.proofs.Common.{◌≡◌, ℕ, ◌+◌, ◌-◌, ◌*◌, ◌/◌, true, false, eqb, ltb, List, [], ◌++◌, length, take, drop, replicate, Some, None, Option, sym, refl, ap, ◌∙◌, subst, ap₂, append_assoc, append-nil, arith, length-append, take_at, drop_at}
+use Rattle.std.proofs.Common.{◌≡◌, ℕ, ◌+◌, ◌-◌, ◌*◌, ◌/◌, ◌≤◌, cond, true, false, eqb, ltb, List, [], ◌++◌, length, take, drop, replicate, Some, None, Option, sym, refl, ap, ◌∙◌, subst, ap₂, append_assoc, append-nil, arith, length-append, take_at, drop_at}
 use Rattle.std.proofs.lemmas.Bool.{lt-ltb, le-ltb, ne_eqb}
 use Rattle.std.proofs.lemmas.List.{drop-drop, nil_from_length}
 use Rattle.wire.specs.Octets.{value_at}
@@ -9,11 +9,11 @@ use Rattle.wire.specs.Walking.{header_of}
 use Rattle.wire.proofs.Numbers.{value_back, value_past}
 use Rattle.wire.proofs.Messages.{header_back}
 use Rattle.plain.specs.Drafts.{Held, Sign, Stage, Draft, counted, bytes_of, standing, encoded}
-use Rattle.plain.specs.Drafts.Stage.{opened, signing, faulty, released}
+use Rattle.plain.specs.Drafts.Stage.{released}
 use Rattle.plain.specs.Kept.{SignKept}
 use Rattle.drafter.specs.declared.state.Core.{Core}
 use Rattle.drafter.specs.Spots.{payloads_from}
-use Rattle.drafter.specs.Cores.{phase_of, header_size, Shows, header_in, sign_in, stage_in, plain_of, Shown}
+use Rattle.drafter.specs.Cores.{header_size, Shows, header_in, sign_in, sign_now, held_of, sign_of, plain_of, plain_at, Shown}
 use Rattle.drafter.proofs.Spotting.{same_front, spot_behind, payloads_there}
 
 -- the code that the last payload, or the header, names
@@ -21,16 +21,16 @@ abbrev pub ending : Option Sign → ℕ
 ending None = 0
 ending (Some g) = 4
 
-abbrev sign_of : Option Sign → List ℕ
-sign_of None = []
-sign_of (Some g) = sign_body g.type g.signature
+abbrev sign_bytes : Option Sign → List ℕ
+sign_bytes None = []
+sign_bytes (Some g) = sign_body g.type g.signature
 
 -- the bytes but SIGN
 abbrev pub bare_of : ℕ → Option Header → List Payload → List ℕ
 bare_of c None ps = []
 bare_of c (Some h) ps = front c h ps
 
-bytes_split : (o : Option Header) (ps : List Payload) (g : Option Sign) → SignKept o g → bytes_of o ps g ≡ bare_of (ending g) o ps ++ sign_of g
+bytes_split : (o : Option Header) (ps : List Payload) (g : Option Sign) → SignKept o g → bytes_of o ps g ≡ bare_of (ending g) o ps ++ sign_bytes g
 bytes_split None ps None k = refl
 bytes_split None ps (Some g) k = absurd k
 bytes_split (Some h) ps None k = sym (append-nil (front 0 h ps))
@@ -57,20 +57,20 @@ module _ (s : Draft) (c : Core) (w : Shows s c) where
   abbrev rest : List ℕ
   rest = replicate (counted bs - length (encoded s)) 0 ++ drop (counted bs) bs
 
-  parts : bs ≡ bare_of (ending g) o ps ++ (sign_of g ++ rest)
-  parts = w.is ∙ ap (λ x. x ++ rest) (bytes_split o ps g w.kept.sign) ∙ append_assoc (bare_of (ending g) o ps) (sign_of g) rest
+  parts : bs ≡ bare_of (ending g) o ps ++ (sign_bytes g ++ rest)
+  parts = w.is ∙ ap (λ x. x ++ rest) (bytes_split o ps g w.kept.sign) ∙ append_assoc (bare_of (ending g) o ps) (sign_bytes g) rest
 
   bare_long : length (bare_of (ending g) o ps) ≡ c.end
   bare_long = bare_length (ending g) o ps ∙ sym w.end
 
   pub records_are : take c.end bs ≡ bare_of (ending g) o ps
-  records_are = ap (take c.end) parts ∙ take_at (bare_of (ending g) o ps) (sign_of g ++ rest) c.end bare_long
+  records_are = ap (take c.end) parts ∙ take_at (bare_of (ending g) o ps) (sign_bytes g ++ rest) c.end bare_long
 
-  sign_there : drop c.end bs ≡ sign_of g ++ rest
-  sign_there = ap (drop c.end) parts ∙ drop_at (bare_of (ending g) o ps) (sign_of g ++ rest) c.end bare_long
+  sign_there : drop c.end bs ≡ sign_bytes g ++ rest
+  sign_there = ap (drop c.end) parts ∙ drop_at (bare_of (ending g) o ps) (sign_bytes g ++ rest) c.end bare_long
 
-  full_is : c.full ≡ c.end + length (sign_of g)
-  full_is = omega (arith, w.full, ap length (bytes_split o ps g w.kept.sign), length-append (bare_of (ending g) o ps) (sign_of g), bare_long)
+  full_is : c.full ≡ c.end + length (sign_bytes g)
+  full_is = omega (arith, w.full, ap length (bytes_split o ps g w.kept.sign), length-append (bare_of (ending g) o ps) (sign_bytes g), bare_long)
 
   held_there : (x : Option Header) → o ≡ x → (header_in c.header (take c.end bs) ≡ x) × (payloads_from c.count (record { naming = 2; at = c.header }) (take c.end bs) ≡ ps)
   unfolding payloads_from
@@ -92,18 +92,18 @@ module _ (s : Draft) (c : Core) (w : Shows s c) where
   -- SIGN, while it stands
   module _ (y : Sign) (e : g ≡ Some y) (l : LawfulSign y.type y.signature) where
     sign_is : drop c.end bs ≡ sign_body y.type y.signature ++ rest
-    sign_is = sign_there ∙ ap (λ x. sign_of x ++ rest) e
+    sign_is = sign_there ∙ ap (λ x. sign_bytes x ++ rest) e
 
     sign_long : c.full ≡ c.end + (2 + length y.signature)
-    sign_long = omega (arith, full_is, ap (λ x. length (sign_of x)) e)
+    sign_long = omega (arith, full_is, ap (λ x. length (sign_bytes x)) e)
 
     type_there : value_at 2 c.end bs / 4096 ≡ y.type
     type_there =
         let n : c.end ≡ length (bare_of (ending g) o ps) + 0 = omega (arith, bare_long) in
-        let v : value_at 2 c.end bs ≡ value_at 2 0 (sign_of g ++ rest) =
-        ap₂ (value_at 2) n parts ∙ value_past 2 (bare_of (ending g) o ps) (sign_of g ++ rest) 0 in
-        let u : value_at 2 0 (sign_of g ++ rest) ≡ y.type * 4096 + length y.signature =
-        ap (λ x. value_at 2 0 (sign_of x ++ rest)) e ∙ value_back 1 (y.type * 4096 + length y.signature) (y.signature ++ rest) in
+        let v : value_at 2 c.end bs ≡ value_at 2 0 (sign_bytes g ++ rest) =
+        ap₂ (value_at 2) n parts ∙ value_past 2 (bare_of (ending g) o ps) (sign_bytes g ++ rest) 0 in
+        let u : value_at 2 0 (sign_bytes g ++ rest) ≡ y.type * 4096 + length y.signature =
+        ap (λ x. value_at 2 0 (sign_bytes x ++ rest)) e ∙ value_back 1 (y.type * 4096 + length y.signature) (y.signature ++ rest) in
         omega (arith, v, u, l.most)
 
     signature_there : take (c.full - (c.end + 2)) (drop (c.end + 2) bs) ≡ y.signature
@@ -118,7 +118,7 @@ module _ (s : Draft) (c : Core) (w : Shows s c) where
     stands = lt-ltb _ _ (omega (arith, sign_long))
 
   absent : g ≡ None → ltb c.end c.full ≡ false
-  absent e = le-ltb _ _ (omega (arith, full_is, ap (λ x. length (sign_of x)) e))
+  absent e = le-ltb _ _ (omega (arith, full_is, ap (λ x. length (sign_bytes x)) e))
 
   -- SIGN that stands is lawful
   lawful_sign : (x : Option Header) (y : Sign) → SignKept x (Some y) → LawfulSign y.type y.signature
@@ -128,26 +128,42 @@ module _ (s : Draft) (c : Core) (w : Shows s c) where
   pub sign_lawful : (y : Sign) → g ≡ Some y → LawfulSign y.type y.signature
   sign_lawful y e = lawful_sign o y (subst (SignKept o) e w.kept.sign)
 
-  stage_there : (x : Stage) → s.stage ≡ x → stage_in (phase_of x) (sign_in c.end c.full bs) (ltb c.end c.full) ≡ x
-  stage_there opened e = refl
-  stage_there (signing y l) e = let k : g ≡ Some y = ap standing e in ap (λ z. signing z l) (sign_same y k (sign_lawful y k))
-  stage_there (faulty f) e = refl
-  stage_there (released None) e = rw (absent (ap standing e))
-  stage_there (released (Some y)) e =
-      let k : g ≡ Some y = ap standing e in
-      let law = sign_lawful y k in
-      rw (stands y k law) (ap (λ z. released (Some z)) (sign_same y k law))
+  stage_there : (x : Option Sign) → g ≡ x → cond (ltb c.end c.full) (Some (sign_now c)) None ≡ x
+  stage_there None e = rw (absent e)
+  stage_there (Some y) e = let law = sign_lawful y e in rw (stands y e law) (ap Some (sign_same y e law))
 
-  pub plain_is : plain_of c ≡ s
-  unfolding plain_of
+  pub plain_is : plain_of c ≡ record { held = s.held; stage = released g }
+  unfolding held_of sign_of
   plain_is =
       let h = held_there o refl in
-      let stage : (plain_of c).stage ≡ s.stage = ap (λ x. stage_in x (sign_in c.end c.full bs) (ltb c.end c.full)) w.phase ∙ stage_there s.stage refl in
-      ap₂ (λ (x : Held) y. record { held = x; stage = y }) (ap₂ (λ a b. record { header = a; payloads = b }) h.0 h.1) stage
+      ap₂ (λ (x : Held) y. record { held = x; stage = y }) (ap₂ (λ a b. record { header = a; payloads = b }) h.0 h.1) (ap released (stage_there g refl))
+
+  pub stage_is : (plain_of c).stage ≡ released g
+  stage_is = ap (λ x. x.stage) plain_is
+
+  pub at_is : (x : Stage) → s.stage ≡ x → plain_at x c ≡ s
+  at_is x e = ap₂ (λ (y : Held) z. record { held = y; stage = z }) (ap (λ y. y.held) plain_is) (sym e)
+
+-- a stage is shown by the SIGN that stands alone
+pub restaged : (d : Held) (x y : Stage) (c : Core) → standing x ≡ standing y → Shows (record { held = d; stage = x }) c → Shows (record { held = d; stage = y }) c
+restaged d x y c e w =
+    let one : encoded (record { held = d; stage = x }) ≡ encoded (record { held = d; stage = y }) = ap (bytes_of d.header d.payloads) e in
+    record {
+      counted = w.counted;
+      kept = record { sound = w.kept.sound; sign = subst (SignKept d.header) e w.kept.sign; fits = subst (λ b. length b ≤ c.counted) one w.kept.fits };
+      header = w.header;
+      count = w.count;
+      end = w.end;
+      full = w.full ∙ ap length one;
+      is = w.is ∙ ap (λ b. b ++ (replicate (counted c.buffer.now - length b) 0 ++ drop (counted c.buffer.now) c.buffer.now)) one;
+    }
 
 -- behind a header, the records end with the front
 pub end_is : (c : Core) → Shown c → (h : Header) → (plain_of c).held.header ≡ Some h → c.end ≡ length (front 0 h (plain_of c).held.payloads)
 end_is c w h e = w.end ∙ ap (λ x. length (bytes_of x (plain_of c).held.payloads None)) e
 
 pub shown : (s : Draft) (c : Core) → Shows s c → Shown c
-shown s c w = subst (λ x. Shows x c) (sym (plain_is s c w)) w
+shown s c w = subst (λ x. Shows x c) (sym (plain_is s c w)) (restaged s.held s.stage (released (standing s.stage)) c refl w)
+
+pub shown_at : (g : Stage) (c : Core) → (plain_of c).stage ≡ released (standing g) → Shown c → Shows (plain_at g c) c
+shown_at g c e w = restaged (plain_of c).held (plain_of c).stage g c (ap standing e) w

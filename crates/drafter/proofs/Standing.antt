@@ -1,5 +1,5 @@
 -- SIGN that is set in the buffer, written and taken off.
-use Rattle.std.proofs.Common.{◌≡◌, ℕ, ◌+◌, ◌-◌, ◌*◌, ◌<◌, ◌≤◌, ltb, leb, List, ◌++◌, length, take, drop, set, replicate, Some, None, Option, sym, refl, ap, ◌∙◌, subst, ap₂, append_assoc, arith, length-append, take_at, drop_at}
+use Rattle.std.proofs.Common.{◌≡◌, ℕ, ◌+◌, ◌-◌, ◌*◌, ◌<◌, ◌≤◌, leb, List, ◌++◌, length, take, drop, set, replicate, Some, None, Option, sym, refl, ap, ◌∙◌, subst, ap₂, append_assoc, arith, length-append, take_at, drop_at}
 use lib.ListN.{length-replicate}
 use Rattle.std.proofs.lemmas.Bool.{le-leb, and_from}
 use Rattle.std.proofs.lemmas.List.{take_all, drop-drop, set-append_left, replicate-append-replicate}
@@ -7,21 +7,19 @@ use Rattle.wire.specs.Octets.{in_bytes}
 use Rattle.wire.specs.Messages.{Header, Payload, front, sign_length, sign_body, encode}
 use Rattle.wire.specs.Lawful.{LawfulSign}
 use Rattle.plain.specs.Drafts.{Sign, Stage, signed_as, counted, bytes_of, standing, encoded}
-use Rattle.plain.specs.Drafts.Stage.{opened, signing}
+use Rattle.plain.specs.Drafts.Stage.{opened, signing, released}
 use Rattle.plain.specs.Steps.{unsigned}
 use Rattle.plain.specs.Kept.{SignKept, Kept}
 use Rattle.plain.proofs.Joints.{naming_of, naming_within, renamed}
 use Rattle.plain.proofs.Keeping.{unsigned_lawful, open_kept}
 use Rattle.drafter.specs.declared.state.Core.{Core}
-use Rattle.drafter.specs.declared.state.Phase.{Phase}
-use Rattle.drafter.specs.declared.state.Phase.TheVariants as phase
 use Rattle.drafter.specs.declared.spot.Spot.{Spot}
 use Rattle.drafter.specs.Spots.{spot_at}
 use Rattle.drafter.specs.Buffers.{laid}
-use Rattle.drafter.specs.Cores.{phase_of, header_size, sign_in, stage_in, plain_of, Shown}
+use Rattle.drafter.specs.Cores.{header_size, Shows, sign_in, plain_of, plain_at, Shown}
 use Rattle.drafter.specs.Signs.{Signed, At}
 use Rattle.drafter.proofs.Spotting.{same_front}
-use Rattle.drafter.proofs.Showing.{end_is}
+use Rattle.drafter.proofs.Showing.{end_is, shown_at}
 use Rattle.drafter.proofs.Asking.{with_header}
 use Rattle.drafter.proofs.Located.{located}
 use Rattle.drafter.proofs.Imaging.{Lies, rewritten_becomes}
@@ -67,19 +65,18 @@ module _ (c : Core) (w : Shown c) (spot : Spot) (s : spot ≡ spot_at c.header c
   naming = last_naming c w h some spot s
 
   -- the same records at another stage: the end of SIGN and the phase change, and the bytes of the buffer
-  at_stage : (g : Stage) (bs : List ℕ) (full : ℕ) (phase : Phase) → Kept c.counted (record { held = (plain_of c).held; stage = g })
-      → full ≡ length (bytes_of (Some h) ps (standing g)) → phase ≡ phase_of g
+  at_stage : (g : Stage) (bs : List ℕ) (full : ℕ) → Kept c.counted (record { held = (plain_of c).held; stage = g })
+      → full ≡ length (bytes_of (Some h) ps (standing g))
       → bs ≡ bytes_of (Some h) ps (standing g) ++ (replicate (c.counted - length (bytes_of (Some h) ps (standing g))) 0 ++ drop c.counted c.buffer.now)
-      → At g c (record c { buffer = record c.buffer { now = bs }; full = full; phase = phase })
-  at_stage g bs full phase k ends out bytes =
-      rewritten_becomes (plain_of c) (record { held = (plain_of c).held; stage = g }) c (record c { buffer = record c.buffer { now = bs }; full = full; phase = phase }) w k (record {
+      → At g c (record c { buffer = record c.buffer { now = bs }; full = full })
+  at_stage g bs full k ends bytes =
+      rewritten_becomes (plain_of c) (record { held = (plain_of c).held; stage = g }) c (record c { buffer = record c.buffer { now = bs }; full = full }) w k (record {
         counted = refl;
         name = refl;
         header = w.header;
         count = w.count;
         end = w.end;
         full = ends ∙ ap (λ x. length (bytes_of x ps (standing g))) (sym some);
-        phase = out;
         bytes = bytes ∙ ap (λ x. bytes_of x ps (standing g) ++ (replicate (c.counted - length (bytes_of x ps (standing g))) 0 ++ drop c.counted c.buffer.now)) (sym some);
       })
 
@@ -114,20 +111,22 @@ module _ (c : Core) (w : Shown c) (spot : Spot) (s : spot ≡ spot_at c.header c
         ∙ ap (λ x. front 4 h ps ++ (two ++ x)) rest ∙ ap (λ x. front 4 h ps ++ x) body ∙ sym (append_assoc (front 4 h ps) (sign_body type z) (replicate left 0 ++ past))
 
     pub stand_at : (bs : List ℕ) → bs ≡ set (laid c.end (in_bytes 2 (type * 4096 + n)) c.buffer.now) spot.naming 4
-        → At (signing (unsigned type n) 0) c (record c { buffer = record c.buffer { now = bs }; full = c.end + 2 + n; phase = phase.Signing 0 })
+        → At (signing (unsigned type n) 0) c (record c { buffer = record c.buffer { now = bs }; full = c.end + 2 + n })
     stand_at bs bytes =
         let numbers = and_from (leb type 15) _ (le-leb _ _ (omega arith)) (and_from (leb 1 n) (leb n 4095) (le-leb _ _ (omega arith)) (le-leb _ _ (omega arith))) in
-        at_stage (signing (unsigned type n) 0) bs (c.end + 2 + n) (phase.Signing 0) (signing_kept (unsigned type n) 0 (unsigned_lawful type n numbers) (omega (arith, zeros_long)))
-        (omega (arith, encode_long h ps (unsigned type n), zeros_long, end_is c w h some)) refl (bytes ∙ stood)
+        at_stage (signing (unsigned type n) 0) bs (c.end + 2 + n) (signing_kept (unsigned type n) 0 (unsigned_lawful type n numbers) (omega (arith, zeros_long)))
+        (omega (arith, encode_long h ps (unsigned type n), zeros_long, end_is c w h some)) (bytes ∙ stood)
 
 -- a draft where SIGN stands
 module _ (c : Core) (w : Signed c) where
   abbrev pub g : Sign
   g = sign_in c.end c.full c.buffer.now
 
-  pub signed_stage : (plain_of c).stage ≡ signing g w.delivered
-  unfolding plain_of
-  signed_stage = ap (λ x. stage_in x g (ltb c.end c.full)) w.out
+  pub signed_stage : (plain_of c).stage ≡ released (Some g)
+  signed_stage = w.out
+
+  pub signed_shows : (l : ℕ) → Shows (plain_at (signing g l) c) c
+  signed_shows l = shown_at (signing g l) c w.out w.shown
 
   kept : SignKept (plain_of c).held.header (Some g)
   kept = subst (λ x. SignKept (plain_of c).held.header (standing x)) signed_stage w.shown.kept.sign
@@ -193,7 +192,7 @@ module _ (c : Core) (w : Signed c) where
         ∙ ap (λ x. front 0 signed_head records ++ (zeros ++ x)) behind ∙ ap (λ x. front 0 signed_head records ++ x) joined
 
     pub fall_at : (bs : List ℕ) → bs ≡ set (laid c.end (replicate (c.full - c.end) 0) c.buffer.now) spot.naming 0
-        → At opened c (record c { buffer = record c.buffer { now = bs }; full = c.end; phase = phase.Open })
+        → At opened c (record c { buffer = record c.buffer { now = bs }; full = c.end })
     fall_at bs bytes =
-        at_stage c w.shown spot s signed_header opened bs c.end phase.Open (open_kept c.counted (plain_of c).held w.shown.kept.sound)
-        (end_is c w.shown signed_head signed_some) refl (bytes ∙ fallen)
+        at_stage c w.shown spot s signed_header opened bs c.end (open_kept c.counted (plain_of c).held w.shown.kept.sound)
+        (end_is c w.shown signed_head signed_some) (bytes ∙ fallen)

@@ -1,13 +1,13 @@
 -- What an edit of a draft in its buffer answers and leaves.
-use Rattle.std.specs.Prelude.{◌≡◌, ℕ, ◌+◌, ◌<◌, ◌≤◌, List, take, drop, Ok, nat_lt}
+use Rattle.std.specs.Prelude.{◌≡◌, ℕ, ◌+◌, ◌<◌, ◌≤◌, List, take, drop, None, Ok, nat_lt}
 use Rattle.wire.specs.declared.refusal.Refusal.TheVariants.{NoPosition}
 use Rattle.wire.specs.Messages.{first}
 use Rattle.wire.specs.Answers.{Answer, check, and_then}
+use Rattle.plain.specs.Drafts.Stage.{released}
 use Rattle.plain.specs.Offers.{asked}
 use Rattle.plain.specs.Edits.{Edit, header_of, editing}
 use Rattle.plain.specs.Steps.{edited}
 use Rattle.drafter.specs.declared.state.Core.{Core}
-use Rattle.drafter.specs.declared.state.Phase.TheVariants as phase
 use Rattle.drafter.specs.declared.spot.Part.{Part}
 use Rattle.drafter.specs.Spots.{size_at, spot_at}
 use Rattle.drafter.specs.Cores.{plain_of, Shown, Becomes}
@@ -15,7 +15,7 @@ use Rattle.drafter.specs.Cores.{plain_of, Shown, Becomes}
 -- a draft that takes edits
 pub record Editable (c : Core) : Type 0 where
   pub shown : Shown c
-  pub open' : c.phase ≡ phase.Open
+  pub open' : (plain_of c).stage ≡ released None
 
 -- how long the payload at a position is in the buffer
 abbrev pub size_in : Core → ℕ → ℕ

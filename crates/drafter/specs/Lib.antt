@@ -5,3 +5,4 @@ pub mod Edits
 pub mod Signs
 pub mod Calls
 pub mod Views
+pub mod States

@@ -1,5 +1,5 @@
 -- What close, sign, withdraw and release leave of a draft in its buffer.
-use Rattle.std.specs.Prelude.{◌≡◌, ℕ, Bool, true, false, length, Some, Ok, Err, nat_le}
+use Rattle.std.specs.Prelude.{◌≡◌, ℕ, length, Some, Ok, Err, nat_le}
 use Rattle.wire.specs.declared.refusal.Refusal.TheVariants.{SignForm, NoRoom}
 use Rattle.wire.specs.Messages.{Header, Message, encode}
 use Rattle.wire.specs.Rows.{rows}
@@ -7,27 +7,23 @@ use Rattle.wire.specs.Answers.{Answer, check, and_then}
 use Rattle.profile.specs.Tables.{Tables}
 use Rattle.profile.specs.Admitting.{admitting}
 use Rattle.plain.specs.Drafts.{Stage, signed_as}
-use Rattle.plain.specs.Drafts.Stage.{opened, signing}
+use Rattle.plain.specs.Drafts.Stage.{opened, signing, faulty, released}
 use Rattle.plain.specs.Edits.{header_of}
-use Rattle.plain.specs.Steps.{Step, sign_fits, unsigned, step}
+use Rattle.plain.specs.Steps.{sign_fits, unsigned}
 use Rattle.drafter.specs.declared.state.Core.{Core}
-use Rattle.drafter.specs.declared.state.Phase.{Phase}
-use Rattle.drafter.specs.declared.state.Phase.TheVariants as phase
-use Rattle.drafter.specs.Cores.{sign_in, plain_of, Shown, Becomes}
+use Rattle.drafter.specs.declared.state.Outcome.{Outcome}
+use Rattle.drafter.specs.declared.state.Outcome.TheVariants as outcome
+use Rattle.drafter.specs.Cores.{sign_now, plain_of, plain_at, Shown, Becomes}
+use Rattle.drafter.specs.Edits.{Editable}
 
 -- a draft where SIGN stands
 pub record Signed (c : Core) : Type 0 where
   pub shown : Shown c
-  pub delivered : ℕ
-  pub out : c.phase ≡ phase.Signing delivered
+  pub out : (plain_of c).stage ≡ released (Some (sign_now c))
 
 -- the same records at another stage
 abbrev pub At : Stage → Core → Core → Type 0
-At stage before after = Becomes (record { held = (plain_of before).held; stage = stage }) before after
-
--- the draft afterwards is that of the plain draft's step
-abbrev pub Follows : Step → Core → Core → Type 0
-Follows c before after = Becomes (step before.counted (plain_of before) c).draft before after
+At stage before after = Becomes (plain_at stage before) before after
 
 -- a close that finds nothing wrong sets SIGN, and one that does leaves the draft open
 abbrev pub Closes : ℕ → ℕ → Answer (Unit {0}) → Core → Core → Type 0
@@ -36,7 +32,7 @@ Closes type n (Err f) before after = At opened before after
 
 -- the message that a draft holds where SIGN stands
 abbrev pub message_in : Header → Core → Message
-message_in h c = signed_as h (plain_of c).held.payloads (sign_in c.end c.full c.buffer.now)
+message_in h c = signed_as h (plain_of c).held.payloads (sign_now c)
 
 -- what a profile refuses of it
 abbrev pub AdmitsBy : Tables → Core → Answer (Unit {0}) → Type 0
@@ -51,12 +47,14 @@ standable c type n =
     (Ok tt)))
 
 -- a draft that is out: with SIGN, or with a fault
-abbrev pub is_out : Phase → Bool
-is_out phase.Open = false
-is_out (phase.Signing delivered) = true
-is_out (phase.Faulty f) = true
-is_out phase.Released = false
+abbrev pub out_stage : Outcome → Core → Stage
+out_stage (outcome.Signing delivered) c = signing (sign_now c) delivered
+out_stage (outcome.Faulty f) c = faulty f
 
-pub record OutDraft (c : Core) : Type 0 where
-  pub shown : Shown c
-  pub out : is_out c.phase ≡ true
+abbrev pub OutDraft : Outcome → Core → Type 0
+OutDraft (outcome.Signing delivered) c = Signed c
+OutDraft (outcome.Faulty f) c = Editable c
+
+abbrev pub delivered_by : Outcome → ℕ
+delivered_by (outcome.Signing delivered) = delivered
+delivered_by (outcome.Faulty f) = 0

@@ -6,15 +6,14 @@ use Rattle.plain.specs.Drafts.{Draft}
 use Rattle.plain.specs.Steps.{Step}
 use Rattle.plain.specs.Turns.{Turns}
 use Rattle.drafter.specs.declared.state.Core.{Core}
-use Rattle.drafter.specs.Cores.{plain_of}
 
 pub record View : Type 0 where
   pub plain : Draft
   pub bytes : List ℕ
   pub lent : GName
 
-abbrev pub view_of : Core → View
-view_of c = record { plain = plain_of c; bytes = c.buffer.now; lent = c.buffer.ghost_name }
+abbrev pub view_at : Draft → Core → View
+view_at s c = record { plain = s; bytes = c.buffer.now; lent = c.buffer.ghost_name }
 
 -- a call turns a draft into another, with this reply, in the buffer that was lent
 pub record Turned (c : Step) (before after : View) (reply : Reply) : Type 0 where

@@ -9,7 +9,8 @@ ghost use Rattle.plain.specs.Steps.Step.{edit as edit_step};
 ghost use Rattle.plain.specs.Turns.{settled};
 ghost use Rattle.drafter.specs.declared.state.Core.{Core};
 ghost use Rattle.drafter.specs.Spots.{spot_at};
-ghost use Rattle.drafter.specs.Cores.{Shown};
+ghost use Rattle.plain.specs.Drafts.Stage.{opened};
+ghost use Rattle.drafter.specs.Cores.{plain_at, Shown};
 ghost use Rattle.drafter.specs.Edits.{Editable, PartAt, first_in, placing, asking, Accepted, Leaves};
 ghost use Rattle.drafter.specs.Calls.{Makes};
 
@@ -71,7 +72,7 @@ impl<'a> Core<'a> {
     // Asks an edit, and makes it if it is not refused.
     pub(crate) fn edit<E: Edit>(&mut self, edit: &E) -> Result<(), Refusal>
         requires { Editable self.old }
-        ensures { Makes (edit_step (E.edit edit.now)) self.old self.new (settled result) }
+        ensures { Makes (edit_step (E.edit edit.now)) (plain_at opened self.old) self.old self.new (settled result) }
     {
         let found = edit.ask(self)?;
         edit.make(self, found);

@@ -3,7 +3,6 @@
 
 mod buffer;
 mod delivery;
-mod draft;
 mod edit;
 mod form;
 mod offer;
@@ -12,7 +11,9 @@ mod out;
 mod sign;
 mod spot;
 mod state;
+mod states;
 mod types;
 
 pub use open::begin;
-pub use types::{Draft, Open, Out};
+pub use states::State;
+pub use types::{Open, Out, Released};

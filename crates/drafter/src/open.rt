@@ -10,7 +10,7 @@ ghost use Rattle.drafter.specs.Views.{Turned};
 
 use crate::buffer::clear;
 use crate::edit::{Add, Edit, Remove, Replace};
-use crate::state::{Core, Phase};
+use crate::state::{Core, Outcome};
 use crate::types::{Open, Out};
 use plain::Head;
 use profile::Profile;
@@ -32,7 +32,6 @@ pub fn begin<'a>(buffer: &'a mut [u8]) -> Open<'a>
             count: 0,
             end: 0,
             full: 0,
-            phase: Phase::Open,
         },
     }
 }
@@ -93,7 +92,20 @@ impl<'a> Open<'a> {
         ensures { Turned (close_step (P.tables profile.now) sign_type size) self.entry result Done }
     {
         let Open { mut core } = self;
-        core.close(profile, sign_type, size);
-        Out { core }
+        let outcome = match core.close(profile, sign_type, size) {
+            Ok(()) => Outcome::Signing(0),
+            Err(fault) => Outcome::Faulty(fault),
+        };
+        Out { core, outcome }
+    }
+
+    // Ends the draft, and gives the buffer back as it stands.
+    pub fn end(self) -> &'a mut [u8]
+        ensures buffer { result.now ≡ self.entry.bytes }
+        ensures lent { result.ghost_name ≡ self.entry.lent }
+    {
+        let Open { core } = self;
+        let Core { buffer, .. } = core;
+        buffer
     }
 }

@@ -7,7 +7,7 @@ ghost use Rattle.plain.specs.declared.calls.Reply.TheVariants.{Done, Released};
 ghost use Rattle.plain.specs.Turns.{delivering};
 ghost use Rattle.drafter.specs.Views.{Turned};
 
-use crate::state::Core;
+use crate::state::{Core, Outcome};
 use crate::types::{Open, Out};
 use wire::Refusal;
 
@@ -31,15 +31,25 @@ impl<'a> Out<'a> {
     pub fn sign(&mut self, signature: &[u8]) -> Result<usize, Refusal>
         ensures { Turned (sign_step signature.now) self.old self.new (delivering result) }
     {
-        self.core.sign(signature)
+        match self.outcome {
+            Outcome::Signing(_) => {
+                let length = self.core.deliver(signature)?;
+                self.outcome = Outcome::Signing(length);
+                Ok(length)
+            }
+            Outcome::Faulty(fault) => Err(fault),
+        }
     }
 
     // Takes SIGN off, if it stands, and gives the open draft back.
     pub fn withdraw(self) -> Open<'a>
         ensures { Turned withdraw_step self.entry result Done }
     {
-        let Out { mut core } = self;
-        core.withdraw();
+        let Out { mut core, outcome } = self;
+        match outcome {
+            Outcome::Signing(_) => core.fall(),
+            Outcome::Faulty(_) => {}
+        }
         Open { core }
     }
 
@@ -49,9 +59,8 @@ impl<'a> Out<'a> {
         ensures buffer { result.1.now ≡ self.entry.bytes }
         ensures lent { result.1.ghost_name ≡ self.entry.lent }
     {
-        let Out { mut core } = self;
-        let length = core.release();
+        let Out { core, outcome } = self;
         let Core { buffer, .. } = core;
-        (length, buffer)
+        (outcome.delivered(), buffer)
     }
 }

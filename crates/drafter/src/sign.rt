@@ -2,14 +2,14 @@
 ghost use Rattle.std.specs.Prelude.{◌≡◌, ◌+◌, ◌<◌, ◌≤◌, IfOk};
 ghost use Rattle.plain.specs.Offers.{asked};
 ghost use Rattle.plain.specs.Drafts.Stage.{opened, signing};
-ghost use Rattle.plain.specs.Steps.{unsigned, closing, closed};
+ghost use Rattle.plain.specs.Steps.{unsigned, closing};
 ghost use Rattle.drafter.specs.Cores.{plain_of};
 ghost use Rattle.drafter.specs.Edits.{Editable};
 ghost use Rattle.drafter.specs.Signs.{Signed, At, Closes, AdmitsBy, standable};
 
 use crate::buffer::{clear_sign, put_sign};
 use crate::form::Form;
-use crate::state::{Core, Phase};
+use crate::state::Core;
 use profile::{Profile, admit};
 use walk::walk;
 use wire::{MOST_PAYLOADS, Refusal, Row};
@@ -41,7 +41,6 @@ impl<'a> Core<'a> {
         let naming = self.spot(count).naming;
         put_sign(self.buffer, naming, self.end, form.length());
         self.full = self.end + 2 + form.size;
-        self.phase = Phase::Signing(0);
     }
 
     // SIGN goes, and the draft is open.
@@ -53,7 +52,6 @@ impl<'a> Core<'a> {
         let naming = self.spot(count).naming;
         clear_sign(self.buffer, naming, self.end, self.full);
         self.full = self.end;
-        self.phase = Phase::Open;
     }
 
     // What the profile refuses of the message with SIGN.
@@ -69,7 +67,7 @@ impl<'a> Core<'a> {
 
     // SIGN stands afterwards if nothing is wrong, and else the draft is as it was.
     #[tactic(auto, using(crate::proofs::Closing::during_signed, crate::proofs::Closing::fallen_open))]
-    fn try_close<P: Profile>(
+    pub(crate) fn close<P: Profile>(
         &mut self,
         profile: &P,
         sign_type: u8,
@@ -86,15 +84,5 @@ impl<'a> Core<'a> {
             return Err(fault);
         }
         Ok(())
-    }
-
-    // Closes the draft under a profile, for a signature of `size` bytes. A fault is carried, for sign to tell.
-    pub(crate) fn close<P: Profile>(&mut self, profile: &P, sign_type: u8, size: usize)
-        requires { Editable self.old }
-        ensures { At (closed sign_type size (closing self.old.counted (plain_of self.old).held (P.tables profile.now) sign_type size)) self.old self.new }
-    {
-        if let Err(fault) = self.try_close(profile, sign_type, size) {
-            self.phase = Phase::Faulty(fault);
-        }
     }
 }

@@ -5,13 +5,11 @@ ghost use Rattle.drafter.specs.Cores.{plain_of, Shown};
 
 use wire::Refusal;
 
-// What the draft is: open, out with the length last delivered, out with a fault, or released.
+// What a close found: nothing wrong, with the length last delivered since, or a fault.
 #[derive(Clone, Copy)]
-pub(crate) enum Phase {
-    Open,
+pub(crate) enum Outcome {
     Signing(usize),
     Faulty(Refusal),
-    Released,
 }
 
 // Core has no model of its own, which was tried: a clause then sees only the view, and the lengths would have to be said anew by the
@@ -27,7 +25,6 @@ pub(crate) struct Core<'a> {
     pub(crate) count: usize,
     pub(crate) end: usize,
     pub(crate) full: usize,
-    pub(crate) phase: Phase,
 }
 
 impl<'a> Core<'a> {

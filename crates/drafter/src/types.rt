@@ -1,11 +1,12 @@
 // A draft that is open and one that is out: two types, moved from one to the other. A clause sees the view of each; what is true of
 // its fields is said once, by its model.
-ghost use Rattle.drafter.specs.Views.{View, view_of};
-ghost use Rattle.drafter.specs.Cores.{Shown};
+ghost use Rattle.plain.specs.Drafts.Stage.{opened};
+ghost use Rattle.drafter.specs.Views.{View, view_at};
+ghost use Rattle.drafter.specs.Cores.{plain_of, plain_at, Shown};
 ghost use Rattle.drafter.specs.Edits.{Editable};
-ghost use Rattle.drafter.specs.Signs.{OutDraft};
+ghost use Rattle.drafter.specs.Signs.{OutDraft, out_stage};
 
-use crate::state::Core;
+use crate::state::{Core, Outcome};
 use std::marker::Model;
 
 // Takes edits, and goes out by close.
@@ -17,7 +18,7 @@ pub struct Open<'a> {
 impl<'a> Model for Open<'a> {
     ghost Value = { View };
 
-    ghost view = { λ d. view_of d.core };
+    ghost view = { λ d. view_at (plain_at opened d.core) d.core };
 
     ghost invariant = { λ d. Editable d.core };
 }
@@ -25,25 +26,27 @@ impl<'a> Model for Open<'a> {
 // Takes signatures. It can't be let go: withdraw or release spends it.
 pub struct Out<'a> {
     pub(crate) core: Core<'a>,
+    pub(crate) outcome: Outcome,
 }
 
 impl<'a> Model for Out<'a> {
     ghost Value = { View };
 
-    ghost view = { λ d. view_of d.core };
+    ghost view = { λ d. view_at (plain_at (out_stage d.outcome d.core) d.core) d.core };
 
-    ghost invariant = { λ d. OutDraft d.core };
+    ghost invariant = { λ d. OutDraft d.outcome d.core };
 }
 
-// A draft in whichever state. It takes every call, and tells those that its state does not take. It can't be let go: end spends it.
-pub struct Draft<'a> {
+// A draft that was released. It takes no call.
+#[derive(Drop)]
+pub struct Released<'a> {
     pub(crate) core: Core<'a>,
 }
 
-impl<'a> Model for Draft<'a> {
+impl<'a> Model for Released<'a> {
     ghost Value = { View };
 
-    ghost view = { λ d. view_of d.core };
+    ghost view = { λ d. view_at (plain_of d.core) d.core };
 
     ghost invariant = { λ d. Shown d.core };
 }

@@ -4,7 +4,7 @@ ghost use Rattle.std.specs.List.{AllByRecursion};
 ghost use Rattle.plain.specs.Kept.{Widths};
 ghost use Rattle.exchange.specs.Runs.{steps_of, Runs};
 
-use drafter::Draft;
+use drafter::{State, begin};
 use plain::{Call, Reply};
 use profile::Profile;
 
@@ -19,13 +19,15 @@ fn make_calls<'a, P: Profile>(
     ensures widths { AllByRecursion Widths (steps_of P.Profile.tables calls.now) }
     ensures lent { result.1.ghost_name ≡ buffer.entry.ghost_name }
 {
-    let mut draft = Draft::begin(buffer);
+    let mut state = State::Open(begin(buffer));
     // By one index for both: a zip with the replies' iter_mut leaves a proof nothing of what is written.
     for (i, call) in calls.iter().enumerate() {
-        replies[i] = draft.call(call);
+        let (next, reply) = state.call(call);
+        state = next;
+        replies[i] = reply;
     }
-    let length = draft.bytes().len();
-    (length, draft.end())
+    let length = state.bytes().len();
+    (length, state.end())
 }
 
 // Makes the calls on a draft that begins in the buffer, as many as there is room for replies, and answers the length of the

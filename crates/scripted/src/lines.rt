@@ -1,10 +1,11 @@
 // The lines of a script on a draft.
 ghost use Rattle.std.specs.Prelude.{◌≡◌, ◌*◌, ◌≤◌, length};
+ghost use Rattle.drafter.specs.States.{view_in};
 ghost use Rattle.scripted.specs.Obeys.{Made, Obeyed};
 
 use crate::answers::{ANSWER_BYTES, write};
 use crate::fault::Fault;
-use drafter::Draft;
+use drafter::State;
 use plain::{Call, Head, Reply};
 use profile::{Choice, Sheet};
 use script::{Line, NoBytes, bytes_into, parse};
@@ -36,41 +37,46 @@ fn bytes_of<'a>(text: &str, scratch: &'a mut [u8], line: usize) -> Result<&'a [u
     })
 }
 
-fn make(draft: &mut Draft<'_>, call: &Call<'_, Choice>) -> Result<Reply, Fault>
-    ensures { Made draft.old draft.new result }
+fn make<'a>(state: State<'a>, call: &Call<'_, Choice>) -> (State<'a>, Result<Reply, Fault>)
+    ensures { Made (view_in state.entry) (view_in result.0) result.1 }
 {
-    Ok(draft.call(call))
+    let (next, reply) = state.call(call);
+    (next, Ok(reply))
 }
 
-fn close(
-    draft: &mut Draft<'_>,
+fn close<'a>(
+    state: State<'a>,
     profile: Result<Choice, Fault>,
     sign_type: u8,
     length: usize,
-) -> Result<Reply, Fault>
-    ensures { Made draft.old draft.new result }
+) -> (State<'a>, Result<Reply, Fault>)
+    ensures { Made (view_in state.entry) (view_in result.0) result.1 }
 {
-    let profile = profile?;
-    let call = Call::Close {
-        profile: &profile,
-        sign_type,
-        length,
-    };
-    make(draft, &call)
+    match profile {
+        Ok(profile) => {
+            let call = Call::Close {
+                profile: &profile,
+                sign_type,
+                length,
+            };
+            make(state, &call)
+        }
+        Err(fault) => (state, Err(fault)),
+    }
 }
 
 // Makes the call of a line with the bytes that it is given. A begin is misplaced.
-fn make_line(
-    draft: &mut Draft<'_>,
+fn make_line<'a>(
+    state: State<'a>,
     line: Line<'_>,
     number: usize,
     bytes: &[u8],
     sheet: &[u8],
-) -> Result<Reply, Fault>
-    ensures { Made draft.old draft.new result }
+) -> (State<'a>, Result<Reply, Fault>)
+    ensures { Made (view_in state.entry) (view_in result.0) result.1 }
 {
     let call = match line {
-        Line::Blank | Line::Begin(_) => return Ok(Reply::Misplaced),
+        Line::Blank | Line::Begin(_) => return (state, Ok(Reply::Misplaced)),
         Line::Head { head, .. } => Call::Head(Head {
             map_info: bytes,
             ..head
@@ -90,53 +96,68 @@ fn make_line(
             profile,
             sign_type,
             length,
-        } => return close(draft, profile_of(profile, sheet, number), sign_type, length),
+        } => return close(state, profile_of(profile, sheet, number), sign_type, length),
         Line::Sign(_) => Call::Sign(bytes),
         Line::Withdraw => Call::Withdraw,
         Line::Release => Call::Release,
     };
-    make(draft, &call)
+    make(state, &call)
 }
 
 // Makes a line's call, and writes its answer.
-fn obey(
-    draft: &mut Draft<'_>,
+fn obey<'a>(
+    state: State<'a>,
     text: &str,
     number: usize,
     sheet: &[u8],
     scratch: &mut [u8],
     answers: &mut [u8],
     count: &mut usize,
-) -> Result<(), Fault>
-    ensures { Obeyed draft.old draft.new answers.old answers.new count.old count.new }
+) -> (State<'a>, Result<(), Fault>)
+    ensures { Obeyed (view_in state.entry) (view_in result.0) answers.old answers.new count.old count.new }
 {
-    let line = parse(text).ok_or(Fault::NoCall(number))?;
+    let Some(line) = parse(text) else {
+        return (state, Err(Fault::NoCall(number)));
+    };
     if matches!(line, Line::Blank) {
-        return Ok(());
+        return (state, Ok(()));
     }
     if answers.len() / ANSWER_BYTES <= *count {
-        return Err(Fault::Answers(number));
+        return (state, Err(Fault::Answers(number)));
     }
-    let bytes = bytes_of(line.spelled(), scratch, number)?;
-    let reply = make_line(draft, line, number, bytes, sheet)?;
-    write(answers, *count, reply);
-    *count += 1;
-    Ok(())
+    let bytes = match bytes_of(line.spelled(), scratch, number) {
+        Ok(bytes) => bytes,
+        Err(fault) => return (state, Err(fault)),
+    };
+    let (next, made) = make_line(state, line, number, bytes, sheet);
+    match made {
+        Ok(reply) => {
+            write(answers, *count, reply);
+            *count += 1;
+            (next, Ok(()))
+        }
+        Err(fault) => (next, Err(fault)),
+    }
 }
 
 // Makes the calls of the lines that are left, up to one that ends the script.
-pub(crate) fn obey_all(
-    draft: &mut Draft<'_>,
+pub(crate) fn obey_all<'a>(
+    state: State<'a>,
     lines: Numbered<'_>,
     sheet: &[u8],
     scratch: &mut [u8],
     answers: &mut [u8],
     count: &mut usize,
-) -> Result<(), Fault>
-    ensures { Obeyed draft.old draft.new answers.old answers.new count.old count.new }
+) -> (State<'a>, Result<(), Fault>)
+    ensures { Obeyed (view_in state.entry) (view_in result.0) answers.old answers.new count.old count.new }
 {
+    let mut state = state;
     for (number, text) in lines {
-        obey(draft, text, number, sheet, scratch, answers, count)?;
+        let (next, obeyed) = obey(state, text, number, sheet, scratch, answers, count);
+        state = next;
+        if let Err(fault) = obeyed {
+            return (state, Err(fault));
+        }
     }
-    Ok(())
+    (state, Ok(()))
 }

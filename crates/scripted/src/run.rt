@@ -7,7 +7,7 @@ use crate::answers::{ANSWER_BYTES, write};
 use crate::fault::Fault;
 use crate::lines::{Numbered, obey_all};
 use boundary::narrow;
-use drafter::Draft;
+use drafter::{State, begin};
 use plain::Reply;
 use script::{Line, Room, parse};
 
@@ -23,10 +23,10 @@ fn draft_in<'a>(
     ensures drafted { Drafted buffer.old result.2.now answers.old answers.new count.old count.new result.0 }
     ensures lent { result.2.ghost_name ≡ buffer.entry.ghost_name }
 {
-    let mut draft = Draft::begin(buffer);
-    let ended = obey_all(&mut draft, lines, sheet, scratch, answers, count);
-    let length = draft.bytes().len();
-    (length, ended, draft.end())
+    let open = State::Open(begin(buffer));
+    let (state, ended) = obey_all(open, lines, sheet, scratch, answers, count);
+    let length = state.bytes().len();
+    (length, ended, state.end())
 }
 
 fn draft_on(

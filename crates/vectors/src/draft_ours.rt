@@ -1,9 +1,9 @@
-// A list run through our `Draft`, and each answer and buffer compared with the second library's.
+// A list run through our `State`, and each answer and buffer compared with the second library's.
 use crate::draft_families::List;
 use crate::draft_profiles::Profiles;
 use crate::draft_report::Tally;
 use crate::draft_seconds::Step;
-use drafter::Draft;
+use drafter::{State, begin};
 use plain::Reply;
 use second::draft::Answer;
 use wire::LONGEST;
@@ -76,31 +76,7 @@ pub fn same_buffer(buffer: &[u8], list: &List, step: &Step) -> bool {
     buffer == step.buffer.as_slice() && is_left(buffer, step.encoding.len(), list.fill)
 }
 
-// Makes all calls, and compares after each.
-fn follow(
-    draft: &mut Draft<'_>,
-    list: &List,
-    profiles: &Profiles,
-    steps: &[Step],
-    tally: &mut Tally,
-) -> Result<(), Mismatch> {
-    for (call, (made, step)) in list.calls.iter().zip(steps).enumerate() {
-        let reply = draft.call(&made.lent(profiles));
-        tally.reply(reply);
-        let encoding = draft.bytes();
-        if let Some(what) = unlike(reply, encoding, step) {
-            let length = encoding.len();
-            return Err(Mismatch {
-                what,
-                call,
-                reply,
-                length,
-            });
-        }
-    }
-    Ok(())
-}
-
+// Makes all calls, and compares after each. A draft that is out can't be let go, so that the first mismatch is kept until the end.
 pub fn run_calls(
     buffer: &mut [u8],
     list: &List,
@@ -108,10 +84,26 @@ pub fn run_calls(
     steps: &[Step],
     tally: &mut Tally,
 ) -> Result<(), Mismatch> {
-    let mut draft = Draft::begin(buffer);
-    let followed = follow(&mut draft, list, profiles, steps, tally);
-    let _buffer = draft.end();
-    followed
+    let mut state = State::Open(begin(buffer));
+    let mut found = Ok(());
+    for (call, (made, step)) in list.calls.iter().zip(steps).enumerate() {
+        let (next, reply) = state.call(&made.lent(profiles));
+        state = next;
+        tally.reply(reply);
+        let encoding = state.bytes();
+        if let Some(what) = unlike(reply, encoding, step) {
+            let length = encoding.len();
+            found = Err(Mismatch {
+                what,
+                call,
+                reply,
+                length,
+            });
+            break;
+        }
+    }
+    let _buffer = state.end();
+    found
 }
 
 // Makes the calls up to one, and compares the whole buffer as the end of the draft leaves it.
@@ -123,12 +115,14 @@ fn end_after(
     step: &Step,
 ) -> Result<(), Mismatch> {
     buffer.fill(list.fill);
-    let mut draft = Draft::begin(buffer);
+    let mut state = State::Open(begin(buffer));
     let mut reply = Reply::Done;
     for made in list.calls.iter().take(call.saturating_add(1)) {
-        reply = draft.call(&made.lent(profiles));
+        let (next, told) = state.call(&made.lent(profiles));
+        state = next;
+        reply = told;
     }
-    let buffer = draft.end();
+    let buffer = state.end();
     if same_buffer(buffer, list, step) {
         return Ok(());
     }

@@ -4,4 +4,4 @@ use Rattle.plain.specs.Steps.{called}
 use Rattle.scripted.proofs.lines.make.Goals as goal
 
 pub returns : goal.returns
-returns c = (Some (called choice_tables c.args.call.now), c.call.ensures.turned)
+returns c = (Some (called choice_tables c.args.call.now), c.call-next.ensures.turned)

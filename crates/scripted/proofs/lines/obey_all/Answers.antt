@@ -5,7 +5,7 @@ pub loop-number-init : goal.loop-number-init
 loop-number-init c = stays _ _ _
 
 pub loop-number-preserved : goal.loop-number-preserved
-loop-number-preserved c = obeyed_more _ _ _ _ _ _ _ _ _ c.loop-number.invariant c.obey.ensures
+loop-number-preserved c = obeyed_more _ _ _ _ _ _ _ _ _ c.loop-number.invariant c.obey-next.ensures
 
-pub returns-in_err-obey : goal.returns-in_err-obey
-returns-in_err-obey c = obeyed_more _ _ _ _ _ _ _ _ _ c.loop-number.invariant c.obey.ensures
+pub returns-in-Err : goal.returns-in-Err
+returns-in-Err c = obeyed_more _ _ _ _ _ _ _ _ _ c.loop-number.invariant c.obey-next.ensures

@@ -8,23 +8,23 @@ pub overflow_sub-full : goal.overflow_sub-full
 overflow_sub-full c = omega (arith, signed_long c.args.self.now c.requires)
 
 pub returns-then-signature-full : goal.returns-then-signature-full
-returns-then-signature-full c =
+returns-then-signature-full c l =
     let s = c.args.self.now in
     let long = signed_long s c.requires in
     record {
-      answer = other_reply s c.requires c.args.signature.now (λ e. omega arith);
-      follows = other_follows s c.requires c.args.signature.now (λ e. omega arith);
+      answer = other_reply s c.requires c.args.signature.now l (λ e. omega arith);
+      follows = other_follows s c.requires c.args.signature.now l (λ e. omega arith);
     }
 
 pub lay-requires : goal.lay-requires
 lay-requires c = omega (arith, signed_long c.args.self.now c.requires, full_within c.args.self.now c.requires)
 
 pub returns : goal.returns
-returns c =
+returns c l =
     let s = c.args.self.now in
     let long = signed_long s c.requires in
     let bytes = octets c.args.signature.now c.type_inv.signature in
     record {
-      answer = right_reply s c.requires c.args.signature.now bytes (omega arith);
-      follows = right_follows s c.requires c.args.signature.now bytes (omega arith) _ c.lay.ensures;
+      answer = right_reply s c.requires c.args.signature.now l bytes (omega arith);
+      follows = right_follows s c.requires c.args.signature.now l bytes (omega arith) _ c.lay.ensures;
     }

@@ -1,9 +1,21 @@
-use Rattle.plain.specs.Steps.Step.{withdraw}
-use Rattle.drafter.proofs.Calling.{made_shown, made_turns, withdraw_made}
+use Rattle.std.proofs.Common.{subst}
+use Rattle.drafter.specs.Signs.{OutDraft}
+use Rattle.drafter.proofs.Calling.{fall_open, withdraw_falls, withdraw_clears}
+use Rattle.drafter.proofs.types.Out.withdraw.Goals.{in-Signing, in-Faulty}
 use Rattle.drafter.proofs.types.Out.withdraw.Goals as goal
 
 pub invariant_of-result : goal.invariant_of-result
-invariant_of-result c = record { shown = made_shown withdraw _ _ _ (withdraw_made _ c.self.invariant _ c.withdraw.ensures.follows); open' = c.withdraw.ensures.«open» }
+invariant_of-result c =
+    let s = c.self.inside.core in
+    elim c.match-outcome.branch [
+      | in-Signing w ↦ rw w.core-is (fall_open s w.fall.new.self w.fall.ensures)
+      | in-Faulty w ↦ rw w.core-is (subst (λ o. OutDraft o s) w.in-Faulty.is c.self.invariant)
+    ]
 
 pub returns : goal.returns
-returns c = rw (← c.self.view_is) (made_turns withdraw _ _ c.self.invariant.shown _ (withdraw_made _ c.self.invariant _ c.withdraw.ensures.follows))
+returns c =
+    let s = c.self.inside.core in
+    elim c.match-outcome.branch [
+      | in-Signing w ↦ rw (w.core-is, ← c.self.view_is, w.in-Signing.is) (withdraw_falls s (subst (λ o. OutDraft o s) w.in-Signing.is c.self.invariant) w.in-Signing.field-0 w.fall.new.self w.fall.ensures)
+      | in-Faulty w ↦ rw (w.core-is, ← c.self.view_is, w.in-Faulty.is) (withdraw_clears s (subst (λ o. OutDraft o s) w.in-Faulty.is c.self.invariant) w.in-Faulty.field-0)
+    ]

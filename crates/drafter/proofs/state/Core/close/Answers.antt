@@ -1,7 +1,7 @@
 use Rattle.std.proofs.Common.{Err, ap, ◌∙◌, arith}
 use Rattle.std.proofs.lemmas.Result.{err_from_is_err_and}
 use Rattle.drafter.proofs.Closing.{stands, early_refused, close_told}
-use Rattle.drafter.proofs.state.Core.try_close.Goals as goal
+use Rattle.drafter.proofs.state.Core.close.Goals as goal
 
 pub returns-in_err-form-clause-answer : goal.returns-in_err-form-clause-answer
 returns-in_err-form-clause-answer g c =
