@@ -1,10 +1,10 @@
--- Each refusal by its number, place and detail.
-use Rattle.std.specs.Prelude.{ℕ}
+-- Each refusal by its number, place and detail, and which of them a profile gives.
+use Rattle.std.specs.Prelude.{ℕ, Bool, true, false}
 use Rattle.wire.specs.declared.refusal.Refusal.{Refusal}
 use Rattle.wire.specs.declared.refusal.Refusal.TheVariants.{FewRows, TooLong, TooShort, Version, DataType, SessionMap, SessionCut, SessionRule, UnknownCode, ExtraPayload, PayloadCut, PayloadRule, BytesLeft, FieldNotTaken, RankFalls, AboveMost, BelowLeast, NotPassed, NoHeader, NoPosition, MapInfoLeft, DraftFull, NoRoom, SignForm, SignatureLength, RowOutside, SignerLength, ListFull, SheetNames, SheetLine, SheetBounds}
 use Rattle.wire.specs.declared.refusal.Told.{Told}
 
-abbrev tells : ℕ → ℕ → ℕ → Told
+abbrev pub tells : ℕ → ℕ → ℕ → Told
 tells n p d = record { number = n; place = p; detail = d }
 
 abbrev pub told : Refusal → Told
@@ -39,3 +39,11 @@ told ListFull = tells 28 0 0
 told SheetNames = tells 29 0 0
 told (SheetLine start) = tells 30 start 0
 told (SheetBounds start) = tells 31 start 0
+
+-- what a profile refuses: a field, a rank, a slot that stands too often, one that stands too seldom
+abbrev pub of_profile : Refusal → Bool
+of_profile (FieldNotTaken byte field) = true
+of_profile (RankFalls start slot) = true
+of_profile (AboveMost start slot) = true
+of_profile (BelowLeast length slot) = true
+of_profile other = false

@@ -1,6 +1,7 @@
 // Refusals: a variant for each, with the values that vary in it. Fields and slots are told by number, since a profile is asked for every
 // number from 0 to 255.
 ghost use Rattle.std.specs.Prelude.{◌≡◌, Some};
+ghost use Rattle.wire.specs.declared.refusal.Refusal.{Refusal};
 ghost use Rattle.wire.specs.Refusals.{told};
 ghost use Rattle.wire.specs.Texts.{told_text};
 
@@ -63,7 +64,9 @@ const fn tells(number: u8, place: usize, detail: u8) -> Told
 impl Refusal {
     // What From below is made by.
     pub fn told(self) -> Told
-        ensures { result ≡ told self }
+        ensures is { result ≡ told self }
+        // Two refusals with the same number, place and detail are one.
+        ensures apart { (other : Refusal) → told other ≡ result → other ≡ self }
     {
         match self {
             Refusal::FewRows => tells(1, 0, 0),
