@@ -1,16 +1,18 @@
 -- What an edit asks of a payload or a map that is offered. An edit's refusal tells no place.
-use Rattle.std.specs.Prelude.{ℕ, cond, not, List, length, Ok, Err, ◌==◌, nat_le}
+use Rattle.std.specs.Prelude.{ℕ, not, List, length, Ok, Err, nat_le}
 use Rattle.wire.specs.declared.refusal.Refusal.{Refusal}
 use Rattle.wire.specs.declared.refusal.Refusal.TheVariants.{SessionMap, SessionCut, SessionRule, UnknownCode, BytesLeft, MapInfoLeft}
-use Rattle.wire.specs.Refusals.{told}
 use Rattle.wire.specs.Kinds.{is_sign}
 use Rattle.wire.specs.Messages.{Payload}
 use Rattle.wire.specs.Answers.{Answer, check, and_then, map_ok}
 use Rattle.wire.specs.Extents.{body_at}
 use Rattle.wire.specs.Walking.{map_fits, sessions, kind_at}
 
+-- a session's refusal without its place
 abbrev pub unplaced : Refusal → Refusal
-unplaced f = cond ((told f).number == 7) (SessionCut 0) (cond ((told f).number == 8) (SessionRule 0) f)
+unplaced (SessionCut start) = SessionCut 0
+unplaced (SessionRule start) = SessionRule 0
+unplaced other = other
 
 abbrev pub unplacing : {A : Type 0} → Answer A → Answer A
 unplacing (Ok a) = Ok a
