@@ -7,6 +7,7 @@ use Rattle.plain.specs.declared.calls.Reply.TheVariants.{Done, Refused, Misplace
 use Rattle.plain.specs.Drafts.{Held, Sign, Stage, Draft, counted, encoded, image}
 use Rattle.plain.specs.Drafts.Stage.{opened, signing, faulty, released}
 use Rattle.plain.specs.Edits.{Edit, editing, Does}
+use Rattle.plain.specs.Outcomes.{outcome}
 use Rattle.plain.specs.Steps.{Step, Turn, edited, signed, taken, step}
 use Rattle.plain.specs.Steps.Step.{edit, close, sign, withdraw, release}
 use Rattle.plain.specs.Turns.{Refusing, Turns}
@@ -86,6 +87,7 @@ pub turns : (c : Step) (before after : Draft) (buffer left : List ℕ) (reply : 
     → left ≡ image buffer after → buffer ≡ image buffer before → length (encoded after) ≤ counted buffer → Turns c before after buffer left reply
 turns c before after buffer left reply answer draft bytes was fits = record {
   answer = answer;
+  told = ap outcome answer;
   draft = draft;
   bytes = bytes;
   long = ap length bytes ∙ image_long buffer after fits;

@@ -5,6 +5,7 @@ use Rattle.plain.specs.declared.calls.Reply.{Reply}
 use Rattle.plain.specs.declared.calls.Reply.TheVariants.{Done, Delivered, Released, Refused, Misplaced}
 use Rattle.plain.specs.Drafts.{Draft, counted, image}
 use Rattle.plain.specs.Edits.{Edit, Does}
+use Rattle.plain.specs.Outcomes.{outcome}
 use Rattle.plain.specs.Steps.{Step, step}
 use Rattle.plain.specs.Steps.Step.{edit}
 
@@ -28,6 +29,8 @@ Refusing Misplaced = Unit {0}
 pub record Turns (c : Step) (before after : Draft) (buffer left : List ℕ) (reply : Reply) : Type 0 where
   -- as the plain draft's step
   pub answer : reply ≡ (step (counted buffer) before c).reply
+  -- as it is told: a refusal by its number, place and detail
+  pub told : outcome reply ≡ outcome (step (counted buffer) before c).reply
   pub draft : after ≡ (step (counted buffer) before c).draft
   -- and the counted bytes are the encoding of the records then held, then zeros
   pub bytes : left ≡ image buffer after

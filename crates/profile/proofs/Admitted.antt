@@ -1,5 +1,5 @@
 -- A profile's refusals stand for what it admits.
-use Rattle.std.proofs.Common.{◌≡◌, ℕ, ◌+◌, ◌≤◌, true, cond, eqb, leb, List, [], ◌∷◌, ◌++◌, length, Ok, sym, refl, ap, ◌∙◌, subst, arith}
+use Rattle.std.proofs.Common.{◌≡◌, ℕ, ◌+◌, ◌≤◌, true, cond, eqb, leb, List, [], ◌∷◌, ◌++◌, length, Ok, sym, refl, ap, ap₂, ◌∙◌, subst, arith}
 use mathlib.Core.Path.{transport}
 use Rattle.std.specs.List.{AllByRecursion}
 use Rattle.std.proofs.lemmas.Bool.{leb-true, le-leb, eq-eqb}
@@ -16,7 +16,7 @@ use Rattle.wire.proofs.Tiling.{Drawn, pieces_drawn, marked_off}
 use Rattle.profile.specs.Tables.{Tables}
 use Rattle.profile.specs.Fields.{Field, fields}
 use Rattle.profile.specs.Admits.{slots, count, slots_of, Taken, Rising, Counted, Admits}
-use Rattle.profile.specs.Admitting.{header_in, fields_in, slots_in, taking, fitted, fitting, sufficient, sufficing, admitting}
+use Rattle.profile.specs.Admitting.{Passed, header_in, fields_in, slots_in, taking, fitted, fitting, sufficient, sufficing, admitting, AdmitsExactly}
 use Rattle.profile.proofs.Slots.{count_append, slots_same, at_slot}
 use Rattle.profile.proofs.Places.{header_same, taken_same}
 
@@ -150,3 +150,9 @@ module _ (P : Tables) where
         sufficing_pass (length (encode m)) (rows m) slots (subst (λ ss. AllByRecursion (λ s. P.least s ≤ count s ss) slots) (sym same_slots)
         (All-weaker (Counted P (slots_of (pieces m))) (λ s. P.least s ≤ count s (slots_of (pieces m))) (λ s k. k.0) slots w.counts)) in
         rw (h, f, s)
+
+pub admits_exactly : (P : Tables) (bytes : List ℕ) (table : List Row) (answer : Passed) → answer ≡ admitting P bytes table → AdmitsExactly P bytes table answer
+admits_exactly P bytes table answer says = record {
+  passes = λ m l e r a. says ∙ ap₂ (admitting P) (sym e) (sym r) ∙ admitted_passes P m l a;
+  only = λ m l e r a. admits_passed P m l tt (ap₂ (admitting P) e r ∙ sym says ∙ a);
+}

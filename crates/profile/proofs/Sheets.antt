@@ -5,7 +5,7 @@ use Rattle.std.specs.List.{flat_map}
 use Rattle.std.specs.Str.{bytes_eq}
 use Rattle.std.proofs.lemmas.Slice.Eq.{bytes_eq-Decides}
 use Rattle.wire.specs.declared.refusal.Refusal.TheVariants.{SheetNames}
-use Rattle.wire.specs.Answers.{Answer, map_ok}
+use Rattle.wire.specs.Answers.{Answer, map_ok, reported}
 use Rattle.wire.proofs.Answers.{check_ok, found}
 use Rattle.profile.specs.declared.sheet.Entry.{Entry}
 use Rattle.profile.specs.declared.sheet.Line.{Line}
@@ -36,6 +36,7 @@ parses text answer e =
     let v : answer ≡ map_ok entries_of (parsing text) = e ∙ entered text (parsing text) refl in
     record {
       value = v;
+      told = ap reported v;
       read_back = λ ls k is. v ∙ ap (map_ok entries_of) (ap parsing (sym is) ∙ written ls k);
       only =
           λ entries is.

@@ -1,13 +1,16 @@
 -- What a profile answers of bytes and the rows that mark off their payloads, and its first refusal on the way.
-use Rattle.std.specs.Prelude.{ℕ, ◌+◌, ◌/◌, ◌%◌, List, [], ◌∷◌, ◌++◌, map, length, Some, None, Ok, Option, nat_le, slice_index}
+use Rattle.std.specs.Prelude.{◌≡◌, ℕ, ◌+◌, ◌/◌, ◌%◌, List, [], ◌∷◌, ◌++◌, map, length, Some, None, Ok, Option, nat_le, slice_index}
 use Rattle.wire.specs.declared.kind.Kind.{Kind}
 use Rattle.wire.specs.declared.refusal.Refusal.TheVariants.{FieldNotTaken, RankFalls, AboveMost, BelowLeast}
 use Rattle.wire.specs.declared.row.Row.{Row}
 use Rattle.wire.specs.Kinds.{kind_of}
+use Rattle.wire.specs.Messages.{Message, encode}
+use Rattle.wire.specs.Lawful.{Lawful}
+use Rattle.wire.specs.Rows.{rows}
 use Rattle.wire.specs.Answers.{Answer, check, and_then}
 use Rattle.profile.specs.Tables.{Tables}
 use Rattle.profile.specs.Fields.{Field, field, Place, field_places, value_in}
-use Rattle.profile.specs.Admits.{slots, count}
+use Rattle.profile.specs.Admits.{slots, count, Admits}
 
 abbrev pub Passed : Type 0
 Passed = Answer (Unit {0})
@@ -63,3 +66,8 @@ admitting T bs rows =
     and_then (taking T (header_in bs)) (λ _.
     and_then (fitting T bs 0 [] rows) (λ _.
     sufficing T (length bs) rows slots))
+
+-- of a lawful message's encoding and rows, it passes exactly those that the profile admits
+pub record AdmitsExactly (T : Tables) (bytes : List ℕ) (table : List Row) (answer : Passed) : Type 0 where
+  pub passes : (m : Message) → Lawful m → encode m ≡ bytes → rows m ≡ table → Admits T m → answer ≡ Ok tt
+  pub only : (m : Message) → Lawful m → encode m ≡ bytes → rows m ≡ table → answer ≡ Ok tt → Admits T m

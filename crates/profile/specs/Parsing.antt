@@ -4,7 +4,7 @@ use Rattle.std.specs.Borrow.{Bor}
 use Rattle.std.specs.Char.{is_ascii_digit}
 use Rattle.std.specs.Str.{bytes_eq}
 use Rattle.wire.specs.declared.refusal.Refusal.TheVariants.{SheetNames, SheetLine, SheetBounds}
-use Rattle.wire.specs.Answers.{Answer, check, and_then, map_ok}
+use Rattle.wire.specs.Answers.{Answer, check, and_then, map_ok, reported}
 use Rattle.profile.specs.declared.sheet.Entry.{Entry}
 use Rattle.profile.specs.declared.sheet.Line.{Line}
 use Rattle.profile.specs.Sheets.{names, sheet_text, Lines, entries_of}
@@ -66,5 +66,7 @@ parsing text = check (bytes_eq (take 21 text) names) SheetNames (lines_from (len
 -- exactly the texts of lines in bounds are sheets, and their entries are those of the lines
 pub record Parses (text : List ℕ) (answer : Answer (List Entry)) : Type 0 where
   pub value : answer ≡ map_ok entries_of (parsing text)
+  -- as it is told: a refusal by its number, place and detail
+  pub told : reported answer ≡ reported (map_ok entries_of (parsing text))
   pub read_back : (lines : List Line) → Lines 0 lines → sheet_text lines ≡ text → answer ≡ Ok (entries_of lines)
   pub only : (entries : List Entry) → answer ≡ Ok entries → (lines : List Line) × Lines 0 lines × (sheet_text lines ≡ text) × (entries ≡ entries_of lines)

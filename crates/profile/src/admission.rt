@@ -1,10 +1,11 @@
 // What a profile says of a message and its rows.
 ghost use Rattle.std.specs.Prelude.{◌≡◌, ◌<◌, [], ◌∷◌, length, slice_index, IfOk};
 ghost use Rattle.wire.specs.Numbered.{field_number};
+ghost use Rattle.wire.specs.Answers.{reported};
 ghost use Rattle.profile.specs.Fields.{field};
 ghost use Rattle.profile.specs.Admits.{slots};
 ghost use Rattle.profile.specs.Counts.{Counting};
-ghost use Rattle.profile.specs.Admitting.{taking, header_in, sakke_in, fields_in, slots_in, fitted, fitting, sufficient, sufficing, admitting};
+ghost use Rattle.profile.specs.Admitting.{taking, header_in, sakke_in, fields_in, slots_in, fitted, fitting, sufficient, sufficing, admitting, AdmitsExactly};
 
 use crate::counts::Counts;
 use crate::interface::Profile;
@@ -131,8 +132,13 @@ impl<P: Profile> Admission<'_, P> {
 }
 
 // Whether a profile admits a message, by its bytes and the rows that mark off its payloads.
+#[tactic(auto, using(crate::proofs::Admitted::admits_exactly))]
 pub fn admit<P: Profile>(profile: &P, message: &[u8], rows: &[Row]) -> Result<(), Refusal>
-    ensures { result ≡ admitting (P.tables profile.now) message.now rows.now }
+    ensures answer { result ≡ admitting (P.tables profile.now) message.now rows.now }
+    // As it is told: a refusal by its number, place and detail.
+    ensures told { reported result ≡ reported (admitting (P.tables profile.now) message.now rows.now) }
+    // In the words of messages.
+    ensures exactly { AdmitsExactly (P.tables profile.now) message.now rows.now result }
 {
     let admission = Admission {
         profile,

@@ -8,7 +8,7 @@ use Rattle.wire.specs.declared.row.Walked.{Walked}
 use Rattle.wire.specs.Octets.{Octets}
 use Rattle.wire.specs.Messages.{Message, encode, span, pieces}
 use Rattle.wire.specs.Rows.{rows, header_length, walked_of, blank, filled}
-use Rattle.wire.specs.Answers.{Answer, check, and_then, map_ok}
+use Rattle.wire.specs.Answers.{Answer, check, and_then, map_ok, reported}
 use Rattle.wire.specs.Walking.{walking}
 use Rattle.wire.proofs.Answers.{same_ok, check_ok, and_then_ok, found, refused}
 use Rattle.wire.proofs.Messages.{read_back, only_lawful, told_apart}
@@ -101,6 +101,7 @@ module _ (T : Tables) (V : Signed → Bool) (bytes : List ℕ) where
     reads = record {
       value = says.0;
       rows = says.1;
+      told = ap reported says.0;
       accepts = λ m g e h.
           let t : leb 24 (length before) ≡ true = le-leb 24 (length before) h in
           let r : reading_into (length before) T V bytes ≡ Ok m = rw t (read_good m g e) in

@@ -6,7 +6,7 @@ use Rattle.wire.specs.declared.row.Walked.{Walked}
 use Rattle.wire.specs.Messages.{Message, encode}
 use Rattle.wire.specs.Lawful.{Lawful}
 use Rattle.wire.specs.Rows.{walked_of, filled}
-use Rattle.wire.specs.Answers.{Answer, map_ok}
+use Rattle.wire.specs.Answers.{Answer, map_ok, reported}
 use Rattle.walk.specs.Walks.{tabled, Told}
 use Rattle.profile.specs.Tables.{Tables}
 use Rattle.profile.specs.Admits.{Admits}
@@ -23,6 +23,8 @@ pub record Reads (T : Tables) (V : Signed → Bool) (bytes : List ℕ) (before :
   -- the answer, and the table afterwards
   pub value : answer ≡ map_ok walked_of (reading_into (length before) T V bytes)
   pub rows : after ≡ tabled (reading_into (length before) T V bytes) before
+  -- as it is told: a refusal by its number, place and detail
+  pub told : reported answer ≡ reported (map_ok walked_of (reading_into (length before) T V bytes))
   -- the encoding of a good message is read as that message, its rows and its numbers
   pub accepts : (m : Message) → Good T V m → encode m ≡ bytes → 24 ≤ length before → (answer ≡ Ok (walked_of m)) × (after ≡ filled m before)
   -- what is accepted is the encoding of a good message

@@ -1,9 +1,9 @@
 -- The signers on a trust list, and what entering one does.
-use Rattle.std.specs.Prelude.{◌≡◌, ℕ, ◌+◌, Bool, true, cond, ◌&&◌, ◌||◌, List, [], ◌∷◌, ◌++◌, map, length, take, Ok, Err, nat_le}
+use Rattle.std.specs.Prelude.{◌≡◌, ℕ, ◌+◌, Bool, true, cond, ◌&&◌, ◌||◌, List, [], ◌∷◌, ◌++◌, map, length, Ok, Err, nat_le}
 use Rattle.std.specs.List.{list_any}
 use Rattle.wire.specs.declared.refusal.Refusal.{Refusal}
 use Rattle.wire.specs.declared.refusal.Refusal.TheVariants.{SignerLength, ListFull}
-use Rattle.wire.specs.Answers.{Answer, check}
+use Rattle.wire.specs.Answers.{Answer, check, reported}
 use Rattle.verifier.specs.Items.{items_of}
 use Rattle.verifier.specs.declared.signers.Signers.{Signers}
 use Rattle.verifier.specs.Identities.{same_identity}
@@ -29,6 +29,8 @@ entered list signer = cond (on_list list signer) list (cond (fits signer && nat_
 -- entering adds exactly that signer, or nothing
 pub record Enters (signer : List ℕ) (before after : Signers) (answer : Answer (Unit {0})) : Type 0 where
   pub value : answer ≡ entering (signers_of before) signer
+  -- as it is told: a refusal by its number, place and detail
+  pub told : reported answer ≡ reported (entering (signers_of before) signer)
   pub list : signers_of after ≡ entered (signers_of before) signer
   pub adds : answer ≡ Ok tt → (s : List ℕ) → on_list (signers_of after) s ≡ (on_list (signers_of before) s || same_identity signer s)
   pub again : on_list (signers_of before) signer ≡ true → after ≡ before

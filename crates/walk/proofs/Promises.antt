@@ -7,7 +7,7 @@ use Rattle.wire.specs.Octets.{Octets}
 use Rattle.wire.specs.Messages.{Message, encode, pieces}
 use Rattle.wire.specs.Lawful.{Lawful}
 use Rattle.wire.specs.Rows.{rows, header_length, walked_of, blank, filled, Tile, MarksOff}
-use Rattle.wire.specs.Answers.{Answer, map_ok}
+use Rattle.wire.specs.Answers.{Answer, map_ok, reported}
 use Rattle.wire.specs.Walking.{walking, walking_into}
 use Rattle.wire.proofs.Answers.{check_ok, found, refused}
 use Rattle.wire.proofs.Messages.{read_back, only_lawful, told_apart}
@@ -41,6 +41,7 @@ module _ (bytes : List ℕ) (before after : List Row) (answer : Answer Walked) (
   walks = record {
     value = says;
     rows = leaves;
+    told = ap reported says;
     read_back = λ m l e h.
         let t : leb 24 (length before) ≡ true = le-leb 24 (length before) h in
         let w : walking_into (length before) bytes ≡ Ok m = rw t (ap walking (sym e) ∙ read_back m l) in

@@ -2,6 +2,7 @@
 use Rattle.std.specs.Prelude.{◌≡◌, ℕ, ◌+◌, ◌<◌, ◌≤◌, List, length, take, drop, Ok, Err}
 use Rattle.wire.specs.declared.refusal.Refusal.TheVariants.{RowOutside}
 use Rattle.wire.specs.declared.row.Row.{Row}
+use Rattle.wire.specs.Refusals.{told, tells}
 use Rattle.wire.specs.Answers.{Answer}
 use Rattle.walk.specs.declared.part.Part.{Part}
 
@@ -11,6 +12,8 @@ pub record Marked (m : List ℕ) (row : Row) (p : Part) : Type 0 where
   pub place : p.place ≡ row.start
   pub bytes : p.bytes.now ≡ take row.length (drop row.start m)
 
+-- or it does not, and the one refusal is told by number, place and detail
 abbrev pub HandsOut : List ℕ → Row → Answer Part → Type 0
 HandsOut m row (Ok p) = Marked m row p
-HandsOut m row (Err f) = (length m < row.start + row.length) × (f ≡ RowOutside)
+HandsOut m row (Err f) =
+    (length m < row.start + row.length) × (f ≡ RowOutside) × (told f ≡ tells 26 0 0)

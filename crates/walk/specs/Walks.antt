@@ -6,7 +6,7 @@ use Rattle.wire.specs.declared.row.Walked.{Walked}
 use Rattle.wire.specs.Messages.{Message, encode, pieces}
 use Rattle.wire.specs.Lawful.{Lawful}
 use Rattle.wire.specs.Rows.{walked_of, filled, Tile, MarksOff}
-use Rattle.wire.specs.Answers.{Answer, map_ok}
+use Rattle.wire.specs.Answers.{Answer, map_ok, reported}
 use Rattle.wire.specs.Walking.{walking_into}
 
 -- a message fills the table, and a refusal leaves it
@@ -29,6 +29,8 @@ pub record Walks (bytes : List ℕ) (before : List Row) (answer : Answer Walked)
   -- the answer, and the table afterwards
   pub value : answer ≡ map_ok walked_of (walking_into (length before) bytes)
   pub rows : after ≡ tabled (walking_into (length before) bytes) before
+  -- as it is told: a refusal by its number, place and detail
+  pub told : reported answer ≡ reported (map_ok walked_of (walking_into (length before) bytes))
   -- a lawful message's encoding is walked to that message, its rows and its numbers
   pub read_back : (m : Message) → Lawful m → encode m ≡ bytes → 24 ≤ length before → (answer ≡ Ok (walked_of m)) × (after ≡ filled m before)
   -- what is accepted is the encoding of a lawful message

@@ -1,6 +1,6 @@
 // The sessions of a header's map.
 ghost use Rattle.std.specs.Prelude.{◌≡◌, ◌+◌, ◌<◌, ◌≤◌, length, drop, IfOk};
-ghost use Rattle.wire.specs.Answers.{map_ok};
+ghost use Rattle.wire.specs.Answers.{map_ok, reported};
 ghost use Rattle.wire.specs.Layouts.{Sessions};
 ghost use Rattle.wire.specs.Extents.{policy_count, data_length, session_extent, session_inside};
 ghost use Rattle.wire.specs.Walking.{map_fits};
@@ -74,6 +74,8 @@ pub(crate) fn sessions(count: u8, from: usize, bytes: &[u8]) -> Result<usize, Re
 // How long the sessions at the front of map info are. Places count from its start.
 pub fn info_length(count: u8, info: &[u8]) -> Result<usize, Refusal>
     ensures answer { result ≡ map_ok length (sessions_of count 0 info.now) }
+    // As it is told: a refusal by its number, place and detail.
+    ensures told { reported result ≡ reported (map_ok length (sessions_of count 0 info.now)) }
     // The sessions that are measured are those that the layouts draw.
     ensures drawn { Measures (Sessions count) info.now result }
 {
