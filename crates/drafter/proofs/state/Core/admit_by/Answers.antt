@@ -8,4 +8,4 @@ returns-in_err-walked g c =
 
 pub returns : goal.returns
 returns g c =
-    admits_by c.args.self.now c.requires (g.P.Profile.tables c.args.profile.now) _ _ _ _ (omega arith) c.walk.ensures (omega arith) _ _ _ c.in_ok-walked.was (omega arith) c.admit.ensures
+    admits_by c.args.self.now c.requires (g.P.Profile.tables c.args.profile.now) _ _ _ _ (omega arith) c.walk.ensures (omega arith) _ _ _ c.in_ok-walked.was (omega arith) c.admit.ensures.answer
