@@ -1,5 +1,5 @@
 // Whole buffers: of each length, filled to the last byte, and after edits that take more or less room.
-use crate::stations::{HEADER, RAND, head, holds};
+use crate::stations::{HEADER, RAND, head, holds, set};
 use drafter::begin;
 use plain::Head;
 use wire::Refusal;
@@ -8,7 +8,7 @@ use wire::Refusal;
 fn headed<const N: usize>() -> (Result<(), Refusal>, [u8; N]) {
     let mut buffer = [7u8; N];
     let mut open = begin(&mut buffer);
-    let answer = open.head(&head());
+    let answer = set(&mut open, &head());
     drop(open);
     (answer, buffer)
 }
@@ -39,7 +39,7 @@ fn filled<const N: usize>() -> ([Result<(), Refusal>; 3], [u8; N]) {
     let mut buffer = [7u8; N];
     let mut open = begin(&mut buffer);
     let answers = [
-        open.head(&head()),
+        set(&mut open, &head()),
         open.add(0, 14, &body),
         open.add(0, 11, &[0]),
     ];
@@ -77,10 +77,10 @@ fn longer() -> Head<'static> {
 fn headers_over_payloads(rt: HostRuntime) {
     let mut buffer = [7u8; 21];
     let mut open = begin(&mut buffer);
-    assert_eq!(rt; open.head(&head()), Ok(()));
+    assert_eq!(rt; set(&mut open, &head()), Ok(()));
     assert_eq!(rt; open.add(0, 11, &[1, 9]), Ok(()));
     assert_eq!(rt; open.add(1, 11, &[0]), Ok(()));
-    assert_eq!(rt; open.head(&longer()), Ok(()));
+    assert_eq!(rt; set(&mut open, &longer()), Ok(()));
     drop(open);
     assert_eq!(rt;
         buffer,
@@ -89,10 +89,10 @@ fn headers_over_payloads(rt: HostRuntime) {
         ]
     );
     let mut open = begin(&mut buffer);
-    assert_eq!(rt; open.head(&longer()), Ok(()));
+    assert_eq!(rt; set(&mut open, &longer()), Ok(()));
     assert_eq!(rt; open.add(0, 11, &[1, 9]), Ok(()));
     assert_eq!(rt; open.add(1, 11, &[0]), Ok(()));
-    assert_eq!(rt; open.head(&Head { byte3: 2, ..head() }), Ok(()));
+    assert_eq!(rt; set(&mut open, &Head { byte3: 2, ..head() }), Ok(()));
     drop(open);
     assert_eq!(rt;
         buffer,
@@ -106,7 +106,7 @@ fn headers_over_payloads(rt: HostRuntime) {
 fn longer_and_shorter_bodies(rt: HostRuntime) {
     let mut buffer = [7u8; 19];
     let mut open = begin(&mut buffer);
-    assert_eq!(rt; open.head(&head()), Ok(()));
+    assert_eq!(rt; set(&mut open, &head()), Ok(()));
     assert_eq!(rt; open.add(0, 11, &[1, 9]), Ok(()));
     assert_eq!(rt; open.add(1, 14, &[1, 1, 0, 0]), Ok(()));
     assert_eq!(rt; open.replace(0, 11, &[2, 8, 9]), Ok(()));
@@ -116,7 +116,7 @@ fn longer_and_shorter_bodies(rt: HostRuntime) {
         [1, 26, 11, 1, 32, 0, 0, 1, 0, 1, 14, 2, 8, 9, 0, 1, 1, 0, 0]
     );
     let mut open = begin(&mut buffer);
-    assert_eq!(rt; open.head(&head()), Ok(()));
+    assert_eq!(rt; set(&mut open, &head()), Ok(()));
     assert_eq!(rt; open.add(0, 11, &[2, 8, 9]), Ok(()));
     assert_eq!(rt; open.add(1, 14, &[1, 1, 0, 0]), Ok(()));
     assert_eq!(rt; open.replace(0, 11, &[0]), Ok(()));
@@ -132,7 +132,7 @@ fn longer_and_shorter_bodies(rt: HostRuntime) {
 fn what_is_added_and_removed_leaves_no_trace(rt: HostRuntime) {
     let mut buffer = [7u8; 28];
     let mut open = begin(&mut buffer);
-    assert_eq!(rt; open.head(&head()), Ok(()));
+    assert_eq!(rt; set(&mut open, &head()), Ok(()));
     assert_eq!(rt; open.add(0, 11, &RAND[..16]), Err(Refusal::PayloadCut(0)));
     assert_eq!(rt; open.add(0, 11, &RAND), Ok(()));
     assert_eq!(rt; open.bytes().len(), 28);

@@ -1,4 +1,4 @@
-use crate::stations::head;
+use crate::stations::{head, set};
 use drafter::begin;
 use plain::Head;
 use wire::Refusal;
@@ -19,7 +19,7 @@ fn payloads_are_added_changed_and_removed(rt: HostRuntime) {
     let mut buffer = [7u8; 32];
     let mut open = begin(&mut buffer);
     assert_eq!(rt; open.add(0, 11, &[0]), Err(Refusal::NoHeader));
-    assert_eq!(rt; open.head(&head()), Ok(()));
+    assert_eq!(rt; set(&mut open, &head()), Ok(()));
     assert_eq!(rt; open.bytes(), [1, 26, 0, 1, 32, 0, 0, 1, 0, 1].as_slice());
     assert_eq!(rt; open.add(0, 11, &[1, 9]), Ok(()));
     assert_eq!(rt;
@@ -52,17 +52,20 @@ fn what_an_edit_refuses(rt: HostRuntime) {
     let mut buffer = [0u8; 14];
     let mut open = begin(&mut buffer);
     assert_eq!(rt;
-        open.head(&Head { cs: 1, ..head() }),
+        set(&mut open, &Head { cs: 1, ..head() }),
         Err(Refusal::SessionMap(0))
     );
     assert_eq!(rt;
-        open.head(&Head {
-            map_info: &[0],
-            ..head()
-        }),
+        set(
+            &mut open,
+            &Head {
+                map_info: &[0],
+                ..head()
+            }
+        ),
         Err(Refusal::MapInfoLeft)
     );
-    assert_eq!(rt; open.head(&head()), Ok(()));
+    assert_eq!(rt; set(&mut open, &head()), Ok(()));
     assert_eq!(rt; open.add(1, 11, &[0]), Err(Refusal::NoPosition));
     assert_eq!(rt; open.add(0, 4, &[0x20, 1, 0]), Err(Refusal::UnknownCode(0)));
     assert_eq!(rt; open.add(0, 11, &[1]), Err(Refusal::PayloadCut(0)));
@@ -80,7 +83,7 @@ fn what_an_edit_refuses(rt: HostRuntime) {
 fn at_most_23_payloads(rt: HostRuntime) {
     let mut buffer = [0u8; 100];
     let mut open = begin(&mut buffer);
-    assert_eq!(rt; open.head(&head()), Ok(()));
+    assert_eq!(rt; set(&mut open, &head()), Ok(()));
     for i in 0..23 {
         assert_eq!(rt; open.add(i, 11, &[0]), Ok(()));
     }

@@ -1,4 +1,4 @@
-// Tests of drafts: their buffers, their edits, how they go out, lists of calls, and messages drafted again.
+// Tests of drafts: their buffers, their edits, how they go out, the calls that each state takes, lists of calls, and messages drafted again.
 #![tactic(auto)]
 
 #[cfg(test)]
@@ -11,5 +11,7 @@ mod exchanges;
 mod measures;
 #[cfg(test)]
 mod outs;
+#[cfg(test)]
+mod states;
 #[cfg(test)]
 mod stations;

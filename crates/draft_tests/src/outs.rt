@@ -1,6 +1,6 @@
-use crate::stations::{HEADER, KEY, RAND, head, holds, sheet};
-use drafter::{State, begin};
-use plain::{Call, Reply};
+use crate::stations::{HEADER, KEY, RAND, head, holds, message, set, sheet};
+use drafter::begin;
+use plain::Reply;
 use profile::Sheet;
 use wire::Refusal;
 
@@ -9,7 +9,7 @@ fn a_message_is_signed_and_withdrawn(rt: HostRuntime) {
     let sheet = sheet().expect(&rt, "a sheet");
     let mut buffer = [0u8; 64];
     let mut open = begin(&mut buffer);
-    assert_eq!(rt; open.head(&head()), Ok(()));
+    assert_eq!(rt; set(&mut open, &head()), Ok(()));
     assert_eq!(rt; open.add(0, 11, &RAND), Ok(()));
     let mut out = open.close(&sheet, 2, 8);
     assert_eq!(rt; out.bytes().len(), 38);
@@ -30,7 +30,7 @@ fn a_message_is_signed_and_withdrawn(rt: HostRuntime) {
 fn fault(sheet: &Sheet, sign_type: u8, size: usize) -> Option<Refusal> {
     let mut buffer = [0u8; 16];
     let mut open = begin(&mut buffer);
-    let _ = open.head(&head());
+    let _ = set(&mut open, &head());
     let mut out = open.close(sheet, sign_type, size);
     let told = out.sign(&[0; 4]).err();
     let (_delivered, _buffer) = out.release();
@@ -58,7 +58,7 @@ fn a_fault_is_mended(rt: HostRuntime) {
     let sheet = sheet().expect(&rt, "a sheet");
     let mut buffer = [7u8; 50];
     let mut open = begin(&mut buffer);
-    assert_eq!(rt; open.head(&head()), Ok(()));
+    assert_eq!(rt; set(&mut open, &head()), Ok(()));
     assert_eq!(rt; open.add(0, 11, &RAND), Ok(()));
     assert_eq!(rt; open.add(1, 11, &RAND), Ok(()));
     let two = Err(Refusal::AboveMost { start: 28, slot: 2 });
@@ -81,18 +81,12 @@ fn a_fault_is_mended(rt: HostRuntime) {
     assert_eq!(rt; &*left, mended.as_slice());
 }
 
-// A header and SIGN, with a signature of four bytes.
-fn message(signature: [u8; 4]) -> [u8; 16] {
-    let [a, b, c, d] = signature;
-    [1, 26, 4, 1, 32, 0, 0, 1, 0, 1, 0x20, 4, a, b, c, d]
-}
-
 #[test]
 fn the_last_signature_stands(rt: HostRuntime) {
     let sheet = sheet().expect(&rt, "a sheet");
     let mut buffer = [7u8; 16];
     let mut open = begin(&mut buffer);
-    assert_eq!(rt; open.head(&head()), Ok(()));
+    assert_eq!(rt; set(&mut open, &head()), Ok(()));
     let mut out = open.close(&sheet, 2, 4);
     for wrong in [[].as_slice(), &[9; 3], &[9; 5]] {
         assert_eq!(rt; out.sign(wrong), Err(Refusal::SignatureLength));
@@ -111,7 +105,7 @@ fn the_last_signature_stands(rt: HostRuntime) {
 fn unsigned(sheet: &Sheet, sign_type: u8) -> (usize, [u8; 16]) {
     let mut buffer = [7u8; 16];
     let mut open = begin(&mut buffer);
-    let _ = open.head(&head());
+    let _ = set(&mut open, &head());
     let (delivered, _buffer) = open.close(sheet, sign_type, 4).release();
     (delivered, buffer)
 }
@@ -125,24 +119,6 @@ fn released_without_a_signature(rt: HostRuntime) {
     let (delivered, buffer) = unsigned(&sheet, 3);
     assert_eq!(rt; delivered, 0);
     assert!(rt; holds(&buffer, &HEADER, 0));
-}
-
-#[test]
-fn a_draft_takes_calls_by_its_state(rt: HostRuntime) {
-    let mut buffer = [9u8; 12];
-    let state = State::Open(begin(&mut buffer));
-    let sign: Call<'_, Sheet> = Call::Sign(&[1]);
-    let (state, reply) = state.call(&sign);
-    assert_eq!(rt; reply, Reply::Misplaced);
-    let set: Call<'_, Sheet> = Call::Head(head());
-    let remove: Call<'_, Sheet> = Call::Remove { position: 0 };
-    let (state, reply) = state.call(&set);
-    assert_eq!(rt; reply, Reply::Done);
-    let (state, reply) = state.call(&remove);
-    assert_eq!(rt; reply, Reply::Refused(Refusal::NoPosition));
-    assert_eq!(rt; state.bytes(), [1, 26, 0, 1, 32, 0, 0, 1, 0, 1].as_slice());
-    let left = state.end();
-    assert_eq!(rt; &*left, [1, 26, 0, 1, 32, 0, 0, 1, 0, 1, 0, 0].as_slice());
 }
 
 #[test]

@@ -1,4 +1,5 @@
 // What the tests draft by: a header without sessions, a payload and a key.
+use drafter::Open;
 use plain::Head;
 use profile::Sheet;
 use verifier::KeyTag;
@@ -19,6 +20,11 @@ pub(crate) fn head() -> Head<'static> {
     }
 }
 
+// Sets a header, field by field.
+pub(crate) fn set(open: &mut Open<'_>, head: &Head<'_>) -> Result<(), Refusal> {
+    open.head(head.byte3, head.csb, head.cs, head.map_type, head.map_info)
+}
+
 // One RAND at most, and SIGN.
 pub(crate) fn sheet() -> Result<Sheet, Refusal> {
     Sheet::parse(b"slot least most rank\n2 0 1 0\n11 1 1 1\n")
@@ -26,6 +32,12 @@ pub(crate) fn sheet() -> Result<Sheet, Refusal> {
 
 // The bytes of that header, where nothing follows it.
 pub(crate) const HEADER: [u8; 10] = [1, 26, 0, 1, 32, 0, 0, 1, 0, 1];
+
+// That header and SIGN, with a signature of four bytes.
+pub(crate) fn message(signature: [u8; 4]) -> [u8; 16] {
+    let [a, b, c, d] = signature;
+    [1, 26, 4, 1, 32, 0, 0, 1, 0, 1, 0x20, 4, a, b, c, d]
+}
 
 // A buffer begins with bytes, and has zeros behind them up to the 8,192nd, and `rest` from there on.
 pub(crate) fn holds(buffer: &[u8], bytes: &[u8], rest: u8) -> bool {

@@ -1,4 +1,5 @@
 -- A call on a draft, as its caller sees it.
+use Rattle.std.specs.Borrow.{MutBor}
 use Rattle.std.proofs.Common.{◌≡◌, ℕ, ◌≤◌, Bool, true, false, eqb, List, ◌++◌, length, drop, replicate, Some, None, Ok, Err, sym, refl, ap, ◌∙◌, subst, arith, length-append, length-drop, drop_at}
 use lib.ListN.{length-replicate}
 use Rattle.wire.specs.declared.refusal.Refusal.{Refusal}
@@ -18,7 +19,7 @@ use Rattle.plain.proofs.Keeping.{begin_kept}
 use Rattle.drafter.specs.declared.state.Core.{Core}
 use Rattle.drafter.specs.declared.state.Outcome.{Outcome}
 use Rattle.drafter.specs.declared.state.Outcome.TheVariants as outcome
-use Rattle.drafter.specs.Cores.{Shows, plain_of, plain_at, sign_now, Shown, Becomes}
+use Rattle.drafter.specs.Cores.{Shows, held_of, sign_of, plain_of, plain_at, sign_now, Shown, Becomes}
 use Rattle.drafter.specs.Edits.{Editable, asking, Leaves}
 use Rattle.drafter.specs.Signs.{Signed, At, OutDraft, out_stage, delivered_by}
 use Rattle.drafter.specs.Calls.{Makes}
@@ -198,3 +199,34 @@ release_turns (outcome.Signing l) c w =
 release_turns (outcome.Faulty f) c w =
     let is : plain_of c ≡ plain_at (released None) c = ap (λ g. plain_at g c) w.open' in
     made_turns release (plain_at (faulty f) c) _ c c (faulty_shows c w f) (Released 0) (record { answer = refl; follows = stays _ c (subst (λ s. Shows s c) is w.shown) }) is
+
+-- the lengths beside another reference to the same bytes, under the same name
+module _ (c : Core) (b : MutBor (List ℕ)) (same : b.now ≡ c.buffer.now) where
+  abbrev pub kept_beside : Core
+  kept_beside = record c { buffer = b }
+
+  beside_plain : plain_of kept_beside ≡ plain_of c
+  unfolding held_of sign_of
+  beside_plain = rw same
+
+  pub beside_shown : Shown c → Shown kept_beside
+  beside_shown w = subst (λ s. Shows s kept_beside) (sym beside_plain) (record {
+    counted = w.counted ∙ ap counted (sym same);
+    kept = w.kept;
+    header = w.header;
+    count = w.count;
+    end = w.end;
+    full = w.full;
+    is = same ∙ w.is ∙ ap (λ bs. image bs (plain_of c)) (sym same);
+  })
+
+  beside_view : b.ghost_name ≡ c.buffer.ghost_name → view_at (plain_of kept_beside) kept_beside ≡ view_at (plain_of c) c
+  beside_view name = let p = beside_plain in cc
+
+  pub beside_turns : b.ghost_name ≡ c.buffer.ghost_name → (o : Outcome) → OutDraft o c → (reply : Reply)
+      → reply ≡ (step (counted c.buffer.now) (plain_at (out_stage o c) c) release).reply
+      → Turned release (view_at (plain_at (out_stage o c) c) c) (view_at (plain_of kept_beside) kept_beside) reply
+  beside_turns name o w reply e =
+      let t = release_turns o c w in
+      subst (Turned release (view_at (plain_at (out_stage o c) c) c) (view_at (plain_of kept_beside) kept_beside)) (t.turns.answer ∙ sym e)
+      (subst (λ v. Turned release (view_at (plain_at (out_stage o c) c) c) v (Released (delivered_by o))) (sym (beside_view name)) t)

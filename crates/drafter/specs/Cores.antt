@@ -25,10 +25,13 @@ pub record Shows (s : Draft) (c : Core) : Type 0 where
 
 -- the records, read back from the bytes
 abbrev pub header_in : ℕ → List ℕ → Option Header
-header_in header bs = cond (header == 0) None (Some (header_of bs (take (header - 10) (drop 10 bs))))
+header_in header bs =
+    cond (header == 0) None (Some (header_of bs (take (header - 10) (drop 10 bs))))
 
 abbrev pub sign_in : ℕ → ℕ → List ℕ → Sign
-sign_in end full bs = record { type = value_at 2 end bs / 4096; signature = take (full - (end + 2)) (drop (end + 2) bs) }
+sign_in end full bs =
+    let signature : List ℕ = take (full - (end + 2)) (drop (end + 2) bs) in
+    record { type = value_at 2 end bs / 4096; signature = signature }
 
 abbrev pub sign_now : Core → Sign
 sign_now c = sign_in c.end c.full c.buffer.now
@@ -36,7 +39,10 @@ sign_now c = sign_in c.end c.full c.buffer.now
 unfoldable pub held_of : Core → Held
 held_of c =
     let records : List ℕ = take c.end c.buffer.now in
-    record { header = header_in c.header records; payloads = payloads_from c.count (record { naming = 2; at = c.header }) records }
+    record {
+      header = header_in c.header records;
+      payloads = payloads_from c.count (record { naming = 2; at = c.header }) records;
+    }
 
 -- SIGN is there exactly if bytes stand behind the payloads
 unfoldable pub sign_of : Core → Option Sign
@@ -53,7 +59,8 @@ plain_at g c = record { held = (plain_of c).held; stage = g }
 abbrev pub Shown : Core → Type 0
 Shown c = Shows (plain_of c) c
 
--- a draft becomes another in the same buffer: the counted bytes are that one's, and the rest is as it was
+-- a draft becomes another in the same buffer: the counted bytes are that one's, and the rest is as
+-- it was
 pub record Becomes (s : Draft) (before after : Core) : Type 0 where
   pub shows : Shows s after
   pub name : after.buffer.ghost_name ≡ before.buffer.ghost_name

@@ -3,6 +3,7 @@ use Rattle.std.specs.Prelude.{◌≡◌, ℕ, ◌+◌, ◌<◌, ◌≤◌, List,
 use Rattle.wire.specs.declared.refusal.Refusal.TheVariants.{NoPosition}
 use Rattle.wire.specs.Messages.{first}
 use Rattle.wire.specs.Answers.{Answer, check, and_then}
+use Rattle.plain.specs.Drafts.{Held}
 use Rattle.plain.specs.Drafts.Stage.{released}
 use Rattle.plain.specs.Offers.{asked}
 use Rattle.plain.specs.Edits.{Edit, header_of, editing}
@@ -19,7 +20,9 @@ pub record Editable (c : Core) : Type 0 where
 
 -- how long the payload at a position is in the buffer
 abbrev pub size_in : Core → ℕ → ℕ
-size_in c position = let records : List ℕ = take c.end c.buffer.now in size_at records (spot_at c.header position records)
+size_in c position =
+    let records : List ℕ = take c.end c.buffer.now in
+    size_at records (spot_at c.header position records)
 
 -- the code of the first payload, or 0
 abbrev pub first_in : Core → ℕ
@@ -38,7 +41,10 @@ pub record PartAt (c : Core) (position : ℕ) (part : Part) : Type 0 where
 
 -- what an edit at one of the first so many positions is refused for before all else
 abbrev pub placing : ℕ → ℕ → Core → Answer (Unit {0})
-placing i places c = and_then (header_of (plain_of c).held.header) (λ _. check (nat_lt i places) NoPosition (Ok tt))
+placing i places c =
+    and_then (header_of (plain_of c).held.header) (λ _.
+    check (nat_lt i places) NoPosition
+    (Ok tt))
 
 -- what an edit is refused for, or nothing
 abbrev pub asking : Edit → Core → Answer (Unit {0})
@@ -50,4 +56,6 @@ Accepted x c = ◌≡◌ {A = Answer (Unit {0})} (Ok tt) (asking x c)
 
 -- the draft afterwards is that of the plain draft's step
 abbrev pub Leaves : Edit → Core → Core → Type 0
-Leaves x before after = Becomes (edited (plain_of before).held (editing before.counted (plain_of before).held x)).draft before after
+Leaves x before after =
+    let held : Held = (plain_of before).held in
+    Becomes (edited held (editing before.counted held x)).draft before after

@@ -36,14 +36,17 @@ message_in h c = signed_as h (plain_of c).held.payloads (sign_now c)
 
 -- what a profile refuses of it
 abbrev pub AdmitsBy : Tables → Core → Answer (Unit {0}) → Type 0
-AdmitsBy T c answer = (h : Header) → (plain_of c).held.header ≡ Some h → answer ≡ admitting T (encode (message_in h c)) (rows (message_in h c))
+AdmitsBy T c answer =
+    (h : Header) → (plain_of c).held.header ≡ Some h →
+    answer ≡ admitting T (encode (message_in h c)) (rows (message_in h c))
 
 -- what a close is refused for before the profile is asked
 abbrev pub standable : Core → ℕ → ℕ → Answer (Unit {0})
 standable c type n =
     and_then (header_of (plain_of c).held.header) (λ h.
     check (sign_fits type n) SignForm
-    (check (nat_le (length (encode (signed_as h (plain_of c).held.payloads (unsigned type n)))) c.counted) NoRoom
+    (let m : Message = signed_as h (plain_of c).held.payloads (unsigned type n) in
+    check (nat_le (length (encode m)) c.counted) NoRoom
     (Ok tt)))
 
 -- a draft that is out: with SIGN, or with a fault

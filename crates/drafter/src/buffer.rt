@@ -1,5 +1,6 @@
-// Moves and writes in the buffer of a draft. Each function is given the buffer and where its bytes in use end, and asks that its part
-// lies within: a struct of the two would be borrowed from the draft's own fields at each call, and ask the same of its caller.
+// Moves and writes in the buffer of a draft. Each function is given the buffer and where its bytes
+// in use end, and asks that its part lies within: a struct of the two would be borrowed from the
+// draft's own fields at each call, and ask the same of its caller.
 ghost use Rattle.std.specs.Prelude.{◌≡◌, ◌+◌, ◌-◌, ◌<◌, ◌≤◌, [], ◌∷◌, ◌++◌, length, take, drop, replicate, slice_set};
 ghost use Rattle.wire.specs.Messages.{header_bytes};
 ghost use Rattle.plain.specs.Steps.{headed};
@@ -17,7 +18,8 @@ pub(crate) fn clear(buffer: &mut [u8], counted: usize)
     buffer[..counted].fill(0);
 }
 
-// The first `old` bytes of a tail give way to `new` ones. What lies behind them, up to `used`, moves once, and zeros take what it leaves.
+// The first `old` bytes of a tail give way to `new` ones. What lies behind them, up to `used`,
+// moves once, and zeros take what it leaves.
 fn resize(tail: &mut [u8], used: usize, old: usize, new: usize)
     requires { (old ≤ used) × ((used ≤ length tail.old) × (used - old + new ≤ length tail.old)) }
     ensures { drop new tail.new ≡ resized used old new tail.old }
@@ -39,7 +41,8 @@ fn put(gap: &mut [u8], front: &[u8], rest: &[u8])
 
 // Two parts in the place of the `old` bytes at `at`. What lies behind those, up to `end`, follows.
 fn splice(buffer: &mut [u8], end: usize, at: usize, old: usize, front: &[u8], rest: &[u8])
-    requires { (at + old ≤ end) × ((end ≤ length buffer.old) × (end - old + (length front.now + length rest.now) ≤ length buffer.old)) }
+    requires { (at + old ≤ end) × ((end ≤ length buffer.old)
+        × (end - old + (length front.now + length rest.now) ≤ length buffer.old)) }
     ensures { Spliced end at old (front.now ++ rest.now) buffer.old buffer.new }
 {
     let new = front.len() + rest.len();
@@ -50,7 +53,8 @@ fn splice(buffer: &mut [u8], end: usize, at: usize, old: usize, front: &[u8], re
 // A payload in the place of a part.
 pub(crate) fn place(buffer: &mut [u8], end: usize, part: Part, code: u8, body: &[u8])
     requires part { (part.spot.at + part.size ≤ end) × (part.spot.naming < length buffer.old) }
-    requires room { (end ≤ length buffer.old) × (end - part.size + (1 + length body.now) ≤ length buffer.old) }
+    requires room { (end ≤ length buffer.old)
+        × (end - part.size + (1 + length body.now) ≤ length buffer.old) }
     ensures { Placed end part.spot part.size (part.next ∷ body.now) code buffer.old buffer.new }
 {
     splice(buffer, end, part.spot.at, part.size, &[part.next], body);
@@ -88,7 +92,8 @@ fn fixed(next: u8, head: &Head<'_>) -> [u8; 10]
 
 // A header in the place of the `old` bytes at the front. `next` is the code of what follows it.
 pub(crate) fn put_header(buffer: &mut [u8], end: usize, old: usize, next: u8, head: &Head<'_>)
-    requires { (old ≤ end) × ((end ≤ length buffer.old) × (end - old + (10 + length head.now.map_info.now) ≤ length buffer.old)) }
+    requires { (old ≤ end) × ((end ≤ length buffer.old)
+        × (end - old + (10 + length head.now.map_info.now) ≤ length buffer.old)) }
     ensures { Spliced end 0 old (header_bytes next (headed head.now)) buffer.old buffer.new }
 {
     splice(buffer, end, 0, old, &fixed(next, head), head.map_info);
@@ -103,7 +108,8 @@ pub(crate) fn lay(buffer: &mut [u8], at: usize, bytes: &[u8])
     buffer[at..end].copy_from_slice(bytes);
 }
 
-// The front of SIGN at `end`, and its code where it is named. The signature behind it is as it was: zeros.
+// The front of SIGN at `end`, and its code where it is named. The signature behind it is as it was:
+// zeros.
 pub(crate) fn put_sign(buffer: &mut [u8], naming: usize, end: usize, front: [u8; 2])
     requires { (naming < end) × (end + 2 ≤ length buffer.old) }
     ensures { buffer.new ≡ slice_set (laid end front buffer.old) naming 4 }

@@ -1,11 +1,7 @@
 // A signature that is written.
-ghost use Rattle.std.specs.Prelude.{◌≡◌, ℕ};
-ghost use Rattle.plain.specs.Turns.{delivering};
-ghost use Rattle.plain.specs.Drafts.Stage.{signing};
-ghost use Rattle.plain.specs.Steps.Step.{sign as sign_step};
-ghost use Rattle.drafter.specs.Cores.{plain_at, sign_now};
+ghost use Rattle.std.specs.Prelude.{◌≡◌};
 ghost use Rattle.drafter.specs.Signs.{Signed, delivered_by};
-ghost use Rattle.drafter.specs.Calls.{Makes};
+ghost use Rattle.drafter.specs.Calls.{MakesSign};
 
 use crate::buffer::lay;
 use crate::state::{Core, Outcome};
@@ -15,7 +11,7 @@ impl<'a> Core<'a> {
     // A signature of the length that close was given goes in its place.
     pub(crate) fn deliver(&mut self, signature: &[u8]) -> Result<usize, Refusal>
         requires { Signed self.old }
-        ensures { (delivered : ℕ) → Makes (sign_step signature.now) (plain_at (signing (sign_now self.old) delivered) self.old) self.old self.new (delivering result) }
+        ensures { MakesSign signature.now self.old self.new result }
     {
         let start = self.end + 2;
         let full = self.full;

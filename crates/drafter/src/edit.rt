@@ -5,21 +5,18 @@ ghost use Rattle.plain.specs.Edits.Edit.{head as head_edit, add as add_edit, rep
 ghost use Rattle.plain.specs.Offers.{asked};
 ghost use Rattle.plain.specs.Steps.{headed};
 ghost use Rattle.plain.specs.Kept.{EditWidths};
-ghost use Rattle.plain.specs.Steps.Step.{edit as edit_step};
-ghost use Rattle.plain.specs.Turns.{settled};
 ghost use Rattle.drafter.specs.declared.state.Core.{Core};
 ghost use Rattle.drafter.specs.Spots.{spot_at};
-ghost use Rattle.plain.specs.Drafts.Stage.{opened};
-ghost use Rattle.drafter.specs.Cores.{plain_at, Shown};
+ghost use Rattle.drafter.specs.Cores.{Shown};
 ghost use Rattle.drafter.specs.Edits.{Editable, PartAt, first_in, placing, asking, Accepted, Leaves};
-ghost use Rattle.drafter.specs.Calls.{Makes};
+ghost use Rattle.drafter.specs.Calls.{MakesEdit};
 
 use crate::buffer::{place, put_header, take_out};
 use crate::offer::{ask_map, ask_payload};
 use crate::spot::{Part, Spot, find, size_at};
 use crate::state::Core;
 use plain::Head;
-use wire::{MOST_PAYLOADS, Refusal, octets};
+use wire::{MOST_PAYLOADS, Refusal};
 
 // How many payloads a draft holds at most: SIGN has a place of its own.
 const MOST: usize = MOST_PAYLOADS - 1;
@@ -41,6 +38,7 @@ pub(crate) trait Edit {
     fn make(&self, core: &mut Core<'_>, found: Self::Found)
         requires draft { Editable core.old }
         requires asked { Accepted (edit self.now) core.old }
+        requires widths { EditWidths (edit self.now) }
         requires found { finds self.now core.old found }
         ensures { Leaves (edit self.now) core.old core.new };
 }
@@ -53,8 +51,9 @@ pub(crate) struct Add<'a> {
     pub(crate) body: &'a [u8],
 }
 
-// A payload of this code and body in the place of the one at a position. It holds what Add holds, but an edit is a type of its own; the
-// three fields in a struct of their own were tried: as many lines, and a `.0` at each use.
+// A payload of this code and body in the place of the one at a position. It holds what Add holds,
+// but an edit is a type of its own; the three fields in a struct of their own were tried: as many
+// lines, and a `.0` at each use.
 #[derive(Drop)]
 pub(crate) struct Replace<'a> {
     pub(crate) position: usize,
@@ -71,8 +70,9 @@ pub(crate) struct Remove {
 impl<'a> Core<'a> {
     // Asks an edit, and makes it if it is not refused.
     pub(crate) fn edit<E: Edit>(&mut self, edit: &E) -> Result<(), Refusal>
-        requires { Editable self.old }
-        ensures { Makes (edit_step (E.edit edit.now)) (plain_at opened self.old) self.old self.new (settled result) }
+        requires draft { Editable self.old }
+        requires widths { EditWidths (E.edit edit.now) }
+        ensures { MakesEdit (E.edit edit.now) self.old self.new result }
     {
         let found = edit.ask(self)?;
         edit.make(self, found);
@@ -83,7 +83,8 @@ impl<'a> Core<'a> {
     pub(crate) fn spot(&self, position: usize) -> Spot
         requires draft { Shown self.now }
         requires there { (0 < self.now.header) × (position ≤ self.now.count) }
-        ensures is { result ≡ spot_at self.now.header position (take self.now.end self.now.buffer.now) }
+        ensures is { result ≡ spot_at self.now.header position
+            (take self.now.end self.now.buffer.now) }
         ensures within { (result.naming < result.at) × (result.at ≤ self.now.end) }
     {
         let end = self.end;
@@ -155,7 +156,6 @@ impl Edit for Add<'_> {
     }
 
     fn make(&self, core: &mut Core<'_>, _found: ()) {
-        octets(self.body);
         let spot = core.spot(self.position);
         let end = core.end;
         let part = Part {
@@ -189,7 +189,6 @@ impl Edit for Replace<'_> {
     }
 
     fn make(&self, core: &mut Core<'_>, part: Part) {
-        octets(self.body);
         let end = core.end;
         place(core.buffer, end, part, self.code, self.body);
         core.end_at(end - part.size + 1 + self.body.len());
@@ -216,16 +215,6 @@ impl Edit for Remove {
     }
 }
 
-// A proof knows the width of a field, and that the bytes of a slice in a field are below 256, only if they are read. This reads
-// those of a header and does nothing; `octets` does the same for a body.
-pub(crate) fn widths(head: &Head<'_>)
-    ensures { EditWidths (head_edit (headed head.now)) }
-{
-    let _byte3 = head.byte3;
-    let _csb = head.csb;
-    octets(head.map_info);
-}
-
 // Another header; the payloads stay.
 impl Edit for Head<'_> {
     type Found = ();
@@ -243,7 +232,6 @@ impl Edit for Head<'_> {
     }
 
     fn make(&self, core: &mut Core<'_>, _found: ()) {
-        widths(self);
         let next = core.first();
         let old = core.header;
         let end = core.end;

@@ -8,6 +8,7 @@ mod form;
 mod offer;
 mod open;
 mod out;
+mod released;
 mod sign;
 mod spot;
 mod state;

@@ -5,7 +5,8 @@ ghost use Rattle.plain.specs.Offers.{unplaced, asked, offering, mapping};
 use walk::{body as body_length, info_length, map_fits};
 use wire::{Kind, Refusal};
 
-// A map that is offered has no place in a message: the two refusals of its sessions that tell one tell 0.
+// A map that is offered has no place in a message: the two refusals of its sessions that tell one
+// tell 0.
 fn unplace(refusal: Refusal) -> Refusal
     ensures { result ≡ unplaced refusal }
 {
@@ -16,7 +17,8 @@ fn unplace(refusal: Refusal) -> Refusal
     }
 }
 
-// A known code but not that of SIGN, and a body that is all there, keeps its rule and leaves no byte over.
+// A known code but not that of SIGN, and a body that is all there, keeps its rule and leaves no
+// byte over.
 pub(crate) fn ask_payload(code: u8, body: &[u8]) -> Result<(), Refusal>
     ensures { result ≡ asked (offering code body.now) }
 {

@@ -1,12 +1,11 @@
 // An open draft.
 ghost use Rattle.std.specs.Prelude.{◌≡◌};
 ghost use Rattle.plain.specs.Drafts.{begin as begun, image, encoded};
-ghost use Rattle.plain.specs.Edits.Edit.{head as head_edit, add as add_edit, replace as replace_edit, remove as remove_edit};
-ghost use Rattle.plain.specs.Steps.{headed};
-ghost use Rattle.plain.specs.Steps.Step.{edit as edit_step, close as close_step};
+ghost use Rattle.plain.specs.Edits.Edit.{add as add_edit, replace as replace_edit, remove as remove_edit};
+ghost use Rattle.plain.specs.Steps.Step.{close as close_step};
 ghost use Rattle.plain.specs.declared.calls.Reply.TheVariants.{Done};
-ghost use Rattle.plain.specs.Turns.{settled};
-ghost use Rattle.drafter.specs.Views.{Turned};
+ghost use Rattle.plain.specs.Kept.{EditWidths};
+ghost use Rattle.drafter.specs.Views.{Turned, TurnedByEdit, head_with};
 
 use crate::buffer::clear;
 use crate::edit::{Add, Edit, Remove, Replace};
@@ -16,7 +15,8 @@ use plain::Head;
 use profile::Profile;
 use wire::{LONGEST, Refusal};
 
-// A draft without header or payloads. At most 8,192 bytes of the buffer count; they are set to zero, and the rest is never touched.
+/// A draft without header or payloads. At most 8,192 bytes of the buffer count; they are set to
+/// zero, and the rest is never touched.
 pub fn begin<'a>(buffer: &'a mut [u8]) -> Open<'a>
     ensures draft { result.plain ≡ begun }
     ensures buffer { result.bytes ≡ image buffer.old begun }
@@ -38,15 +38,17 @@ pub fn begin<'a>(buffer: &'a mut [u8]) -> Open<'a>
 
 impl<'a> Open<'a> {
     // Head, add, replace and remove are this one call.
-    fn edit<E: Edit>(&mut self, edit: &E) -> Result<(), Refusal>
-        ensures { Turned (edit_step (E.edit edit.now)) self.old self.new (settled result) }
+    pub(crate) fn edit<E: Edit>(&mut self, edit: &E) -> Result<(), Refusal>
+        requires { EditWidths (E.edit edit.now) }
+        ensures { TurnedByEdit (E.edit edit.now) self.old self.new result }
     {
         self.core.edit(edit)
     }
 
-    // Inserts a payload at a position; the later ones follow it.
+    /// Inserts a payload at a position; the later ones follow it.
     pub fn add(&mut self, position: usize, code: u8, body: &[u8]) -> Result<(), Refusal>
-        ensures { Turned (edit_step (add_edit position code body.now)) self.old self.new (settled result) }
+        ensures turned { TurnedByEdit (add_edit position code body.now) self.old self.new result }
+        ensures widths { EditWidths (add_edit position code body.now) }
     {
         self.edit(&Add {
             position,
@@ -55,9 +57,11 @@ impl<'a> Open<'a> {
         })
     }
 
-    // Changes the payload at a position.
+    /// Changes the payload at a position.
     pub fn replace(&mut self, position: usize, code: u8, body: &[u8]) -> Result<(), Refusal>
-        ensures { Turned (edit_step (replace_edit position code body.now)) self.old self.new (settled result) }
+        ensures turned { TurnedByEdit (replace_edit position code body.now)
+            self.old self.new result }
+        ensures widths { EditWidths (replace_edit position code body.now) }
     {
         self.edit(&Replace {
             position,
@@ -66,28 +70,44 @@ impl<'a> Open<'a> {
         })
     }
 
-    // Drops the payload at a position.
+    /// Drops the payload at a position.
     pub fn remove(&mut self, position: usize) -> Result<(), Refusal>
-        ensures { Turned (edit_step (remove_edit position)) self.old self.new (settled result) }
+        ensures { TurnedByEdit (remove_edit position) self.old self.new result }
     {
         self.edit(&Remove { position })
     }
 
-    // Sets the header and keeps the payloads.
-    pub fn head(&mut self, head: &Head<'_>) -> Result<(), Refusal>
-        ensures { Turned (edit_step (head_edit (headed head.now))) self.old self.new (settled result) }
+    /// Sets the header and keeps the payloads.
+    pub fn head(
+        &mut self,
+        byte3: u8,
+        csb: u32,
+        cs: u8,
+        map_type: u8,
+        map_info: &[u8],
+    ) -> Result<(), Refusal>
+        ensures turned { TurnedByEdit (head_with byte3 csb cs map_type map_info.now)
+            self.old self.new result }
+        ensures widths { EditWidths (head_with byte3 csb cs map_type map_info.now) }
     {
-        self.edit(head)
+        self.edit(&Head {
+            byte3,
+            csb,
+            cs,
+            map_type,
+            map_info,
+        })
     }
 
-    // The encoding of the records held.
+    /// The encoding of the records held.
     pub fn bytes(&self) -> &[u8]
         ensures { result.now ≡ encoded self.now.plain }
     {
         self.core.encoding()
     }
 
-    // Goes out, for a signature of `size` bytes. It never refuses: what is wrong is carried, and sign tells it.
+    /// Goes out, for a signature of `size` bytes. It never refuses: what is wrong is carried, and
+    /// sign tells it.
     pub fn close<P: Profile>(self, profile: &P, sign_type: u8, size: usize) -> Out<'a>
         ensures { Turned (close_step (P.tables profile.now) sign_type size) self.entry result Done }
     {
@@ -99,7 +119,7 @@ impl<'a> Open<'a> {
         Out { core, outcome }
     }
 
-    // Ends the draft, and gives the buffer back as it stands.
+    /// Ends the draft, and gives the lent buffer back as it stands.
     pub fn end(self) -> &'a mut [u8]
         ensures buffer { result.now ≡ self.entry.bytes }
         ensures lent { result.ghost_name ≡ self.entry.lent }

@@ -74,7 +74,8 @@ impl<'a> Core<'a> {
         size: usize,
     ) -> Result<(), Refusal>
         requires { Editable self.old }
-        ensures answer { result ≡ closing self.old.counted (plain_of self.old).held (P.tables profile.now) sign_type size }
+        ensures answer { result ≡ closing self.old.counted (plain_of self.old).held
+            (P.tables profile.now) sign_type size }
         ensures closes { Closes sign_type size result self.old self.new }
     {
         let form = self.ask_close(sign_type, size)?;

@@ -13,7 +13,8 @@ pub(crate) struct Spot {
     pub(crate) at: usize,
 }
 
-// A part of a buffer that gives way: its spot, how long it is, and the code of what follows it. It is empty where a payload is added.
+// A part of a buffer that gives way: its spot, how long it is, and the code of what follows it. It
+// is empty where a payload is added.
 #[derive(Clone, Copy)]
 pub(crate) struct Part {
     pub(crate) spot: Spot,
@@ -21,7 +22,8 @@ pub(crate) struct Part {
     pub(crate) next: u8,
 }
 
-// How far the body of a payload of this code reaches. By an arm for each kind, as in a walk: so one jump is left.
+// How far the body of a payload of this code reaches. By an arm for each kind, as in a walk: so one
+// jump is left.
 fn reach_of(code: u8, rest: &[u8]) -> usize
     ensures is { result ≡ extent (kind_in code) rest.now }
     ensures small { result < 65540 }
@@ -58,7 +60,8 @@ pub(crate) fn find(bytes: &[u8], header: usize, position: usize) -> Spot
         naming: 2,
         at: header,
     };
-    // No index is counted here: the step is repeated. A fold's closure would want it shown at each turn that the spot is inside.
+    // No index is counted here: the step is repeated. A fold's closure would want it shown at each
+    // turn that the spot is inside.
     for _i in 0..position {
         spot = Spot {
             naming: spot.at,

@@ -12,11 +12,14 @@ pub(crate) enum Outcome {
     Faulty(Refusal),
 }
 
-// Core has no model of its own, which was tried: a clause then sees only the view, and the lengths would have to be said anew by the
-// records, and shown again behind every write. What its functions ask of it (Shown, Editable, Signed, OutDraft) is what the models of
-// Open, Out and Draft keep; and each call states its own promise, so that Makes and what is encoded stand at more than one.
-// The buffer is lent and there is no heap, so that lengths stand beside it. Of the buffer, `counted` bytes count. The header has `header`
-// bytes, 0 before head, which is what the sums of lengths want. The `count` payloads end at `end`, and SIGN, if it stands, at `full`.
+// Core has no model of its own, which was tried: a clause then sees only the view, and the lengths
+// would have to be said anew by the records, and shown again after every write. What its functions
+// ask of it (Shown, Editable, Signed, OutDraft) is what the models of Open, Out and Released keep;
+// and each call states its own promise, so that Makes and what is encoded stand at more than one.
+// The buffer is lent and there is no heap, so that lengths stand beside it. Of the buffer,
+// `counted` bytes count. The header has `header` bytes, 0 before head, which is what the sums of
+// lengths want. The `count` payloads end at `end`, and what is encoded at `full`: after SIGN, where
+// it stands.
 #[derive(Drop)]
 pub(crate) struct Core<'a> {
     pub(crate) buffer: &'a mut [u8],

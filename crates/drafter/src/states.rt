@@ -1,102 +1,166 @@
 // A draft in whichever state: each call takes it and gives back what it has become.
 ghost use Rattle.std.specs.Prelude.{◌≡◌};
 ghost use Rattle.plain.specs.Drafts.{encoded};
+ghost use Rattle.plain.specs.Edits.Edit.{add as add_edit, replace as replace_edit, remove as remove_edit};
 ghost use Rattle.plain.specs.Steps.{called};
-ghost use Rattle.plain.specs.Kept.{Widths};
-ghost use Rattle.drafter.specs.Views.{Turned};
-ghost use Rattle.drafter.specs.States.{view_in};
+ghost use Rattle.plain.specs.Steps.Step.{edit as edit_step, close as close_step, sign as sign_step, withdraw as withdraw_step, release as release_step};
+ghost use Rattle.plain.specs.Kept.{EditWidths, Widths};
+ghost use Rattle.drafter.specs.Views.{head_with};
+ghost use Rattle.drafter.specs.States.{view_in, StateTurned};
 
-use crate::edit::widths;
-use crate::state::Core;
+use crate::edit::{Add, Edit, Remove, Replace};
 use crate::types::{Open, Out, Released};
-use plain::{Call, Reply};
+use plain::{Call, Head, Reply};
 use profile::Profile;
-use wire::octets;
 
-// A draft as its state's type has it.
+/// A draft as its state's type has it. It is moved through each call, and [`State::end`] alone
+/// ends it in whichever state: one that is out can't be let go.
 pub enum State<'a> {
     Open(Open<'a>),
     Out(Out<'a>),
     Released(Released<'a>),
 }
 
-// The arguments of a call are of their widths. A proof knows it of those that are read.
-fn call_widths<P: Profile>(call: &Call<'_, P>)
-    ensures { Widths (called P.Profile.tables call.now) }
-{
-    match call {
-        Call::Head(head) => widths(head),
-        Call::Add { body, .. } => octets(body),
-        Call::Replace { body, .. } => octets(body),
-        Call::Sign(signature) => octets(signature),
-        _ => {}
+// A call for each of the eight, by its arguments: so that their types tell how wide they are. One
+// that the state does not take is misplaced.
+impl<'a> State<'a> {
+    fn edit<E: Edit>(self, edit: &E) -> (State<'a>, Reply)
+        requires { EditWidths (E.edit edit.now) }
+        ensures { StateTurned (edit_step (E.edit edit.now)) self.entry result }
+    {
+        match self {
+            State::Open(mut open) => {
+                let reply = open.edit(edit).into();
+                (State::Open(open), reply)
+            }
+            state => (state, Reply::Misplaced),
+        }
     }
-}
 
-fn call_open<'a, P: Profile>(mut draft: Open<'a>, call: &Call<'_, P>) -> (State<'a>, Reply)
-    ensures { Turned (called P.Profile.tables call.now) draft.entry (view_in result.0) result.1 }
-{
-    let reply = match *call {
-        Call::Head(head) => draft.head(&head).into(),
-        Call::Add {
+    fn head(self, byte3: u8, csb: u32, cs: u8, map_type: u8, map_info: &[u8]) -> (State<'a>, Reply)
+        ensures turned { StateTurned (edit_step (head_with byte3 csb cs map_type map_info.now))
+            self.entry result }
+        ensures widths { EditWidths (head_with byte3 csb cs map_type map_info.now) }
+    {
+        self.edit(&Head {
+            byte3,
+            csb,
+            cs,
+            map_type,
+            map_info,
+        })
+    }
+
+    fn add(self, position: usize, code: u8, body: &[u8]) -> (State<'a>, Reply)
+        ensures turned { StateTurned (edit_step (add_edit position code body.now))
+            self.entry result }
+        ensures widths { EditWidths (add_edit position code body.now) }
+    {
+        self.edit(&Add {
             position,
             code,
             body,
-        } => draft.add(position, code, body).into(),
-        Call::Replace {
+        })
+    }
+
+    fn replace(self, position: usize, code: u8, body: &[u8]) -> (State<'a>, Reply)
+        ensures turned { StateTurned (edit_step (replace_edit position code body.now))
+            self.entry result }
+        ensures widths { EditWidths (replace_edit position code body.now) }
+    {
+        self.edit(&Replace {
             position,
             code,
             body,
-        } => draft.replace(position, code, body).into(),
-        Call::Remove { position } => draft.remove(position).into(),
-        Call::Close {
-            profile,
-            sign_type,
-            length,
-        } => return (
-            State::Out(draft.close(profile, sign_type, length)),
-            Reply::Done,
-        ),
-        _ => Reply::Misplaced,
-    };
-    (State::Open(draft), reply)
-}
+        })
+    }
 
-fn call_out<'a, P: Profile>(mut out: Out<'a>, call: &Call<'_, P>) -> (State<'a>, Reply)
-    ensures { Turned (called P.Profile.tables call.now) out.entry (view_in result.0) result.1 }
-{
-    match call {
-        Call::Sign(signature) => {
-            let reply = out.sign(signature).into();
-            (State::Out(out), reply)
+    fn close<P: Profile>(self, profile: &P, sign_type: u8, size: usize) -> (State<'a>, Reply)
+        ensures { StateTurned (close_step (P.tables profile.now) sign_type size) self.entry result }
+    {
+        match self {
+            State::Open(open) => {
+                let out = open.close(profile, sign_type, size);
+                (State::Out(out), Reply::Done)
+            }
+            state => (state, Reply::Misplaced),
         }
-        Call::Withdraw => (State::Open(out.withdraw()), Reply::Done),
-        Call::Release => {
-            let Out { core, outcome } = out;
-            (
-                State::Released(Released { core }),
-                Reply::Released(outcome.delivered()),
-            )
+    }
+
+    fn sign(self, signature: &[u8]) -> (State<'a>, Reply)
+        ensures turned { StateTurned (sign_step signature.now) self.entry result }
+        ensures widths { Widths (sign_step signature.now) }
+    {
+        match self {
+            State::Out(mut out) => {
+                let reply = out.sign(signature).into();
+                (State::Out(out), reply)
+            }
+            state => (state, Reply::Misplaced),
         }
-        _ => (State::Out(out), Reply::Misplaced),
+    }
+
+    fn withdraw(self) -> (State<'a>, Reply)
+        ensures { StateTurned withdraw_step self.entry result }
+    {
+        match self {
+            State::Out(out) => (State::Open(out.withdraw()), Reply::Done),
+            state => (state, Reply::Misplaced),
+        }
+    }
+
+    fn release(self) -> (State<'a>, Reply)
+        ensures { StateTurned release_step self.entry result }
+    {
+        match self {
+            State::Out(out) => {
+                let (length, released) = Released::of(out);
+                (State::Released(released), Reply::Released(length))
+            }
+            state => (state, Reply::Misplaced),
+        }
     }
 }
 
 impl<'a> State<'a> {
-    // Makes a call, or tells that the state does not take it.
+    /// Makes a call. One that the state does not take is misplaced, and changes nothing.
     pub fn call<P: Profile>(self, call: &Call<'_, P>) -> (State<'a>, Reply)
-        ensures turned { Turned (called P.Profile.tables call.now) (view_in self.entry) (view_in result.0) result.1 }
+        ensures turned { StateTurned (called P.Profile.tables call.now) self.entry result }
         ensures widths { Widths (called P.Profile.tables call.now) }
     {
-        call_widths(call);
-        match self {
-            State::Open(open) => call_open(open, call),
-            State::Out(out) => call_out(out, call),
-            State::Released(released) => (State::Released(released), Reply::Misplaced),
+        match *call {
+            Call::Head(
+                Head {
+                    byte3,
+                    csb,
+                    cs,
+                    map_type,
+                    map_info,
+                },
+            ) => self.head(byte3, csb, cs, map_type, map_info),
+            Call::Add {
+                position,
+                code,
+                body,
+            } => self.add(position, code, body),
+            Call::Replace {
+                position,
+                code,
+                body,
+            } => self.replace(position, code, body),
+            Call::Remove { position } => self.edit(&Remove { position }),
+            Call::Close {
+                profile,
+                sign_type,
+                length,
+            } => self.close(profile, sign_type, length),
+            Call::Sign(signature) => self.sign(signature),
+            Call::Withdraw => self.withdraw(),
+            Call::Release => self.release(),
         }
     }
 
-    // The encoding of the records held.
+    /// The encoding of the records held.
     pub fn bytes(&self) -> &[u8]
         ensures { result.now ≡ encoded (view_in self.now).plain }
     {
@@ -107,7 +171,7 @@ impl<'a> State<'a> {
         }
     }
 
-    // Ends the draft in whichever state, and gives the buffer back as it stands.
+    /// Ends the draft: one that is out is released. Gives the lent buffer back as it stands.
     pub fn end(self) -> &'a mut [u8]
         ensures buffer { result.now ≡ (view_in self.entry).bytes }
         ensures lent { result.ghost_name ≡ (view_in self.entry).lent }
@@ -120,24 +184,5 @@ impl<'a> State<'a> {
             }
             State::Released(released) => released.end(),
         }
-    }
-}
-
-impl<'a> Released<'a> {
-    // The encoding of the records held, SIGN among them if it stood.
-    pub fn bytes(&self) -> &[u8]
-        ensures { result.now ≡ encoded self.now.plain }
-    {
-        self.core.encoding()
-    }
-
-    // Gives the buffer back as it stands.
-    pub fn end(self) -> &'a mut [u8]
-        ensures buffer { result.now ≡ self.entry.bytes }
-        ensures lent { result.ghost_name ≡ self.entry.lent }
-    {
-        let Released { core } = self;
-        let Core { buffer, .. } = core;
-        buffer
     }
 }

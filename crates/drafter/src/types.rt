@@ -1,5 +1,5 @@
-// A draft that is open and one that is out: two types, moved from one to the other. A clause sees the view of each; what is true of
-// its fields is said once, by its model.
+// A draft that is open and one that is out: two types, moved from one to the other. A clause sees
+// the view of each; what is true of its fields is said once, by its model.
 ghost use Rattle.plain.specs.Drafts.Stage.{opened};
 ghost use Rattle.drafter.specs.Views.{View, view_at};
 ghost use Rattle.drafter.specs.Cores.{plain_of, plain_at, Shown};

@@ -42,7 +42,8 @@ fn draft_again<'a, P: Profile>(
 {
     let last = walked.count - 1;
     let mut open = begin(buffer);
-    let _ = open.head(&head_of(message, walked.header));
+    let head = head_of(message, walked.header);
+    let _ = open.head(head.byte3, head.csb, head.cs, head.map_type, head.map_info);
     for (i, row) in rows[..last].iter().enumerate() {
         let Range { start, end } = row.range();
         let _ = open.add(i, row.code, &message[start + 1..end]);

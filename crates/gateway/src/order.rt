@@ -5,7 +5,7 @@ use crate::key::{HEAD, SERVER};
 use crate::stations::{KEY, SIGN_LENGTH, SIGN_TYPE};
 use crate::tell;
 use drafter::{Open, begin};
-use plain::{Call, Reply};
+use plain::{Call, Head, Reply};
 use profile::Sheet;
 use std::io;
 use walk::{Part, lookup};
@@ -27,7 +27,14 @@ fn told(rt: &HostRuntime, call: &Call<'_, Sheet>, reply: Reply) -> io::Result<()
 }
 
 fn head(rt: &HostRuntime, open: &mut Open<'_>) -> io::Result<()> {
-    let reply = open.head(&HEAD).into();
+    let Head {
+        byte3,
+        csb,
+        cs,
+        map_type,
+        map_info,
+    } = HEAD;
+    let reply = open.head(byte3, csb, cs, map_type, map_info).into();
     told(rt, &Call::Head(HEAD), reply)
 }
 

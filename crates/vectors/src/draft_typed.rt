@@ -4,7 +4,7 @@ use crate::draft_ours::{Mismatch, What, same_answer, same_buffer, unlike};
 use crate::draft_profiles::Profiles;
 use crate::draft_seconds::Step;
 use drafter::{Open, Out, begin};
-use plain::{Call, Reply};
+use plain::{Call, Head, Reply};
 use profile::Choice;
 
 // A draft as its state's type has it, or the buffer of one that was released.
@@ -16,7 +16,15 @@ enum Typed<'a> {
 
 fn edit(open: &mut Open<'_>, call: &Call<'_, Choice>) -> Reply {
     match *call {
-        Call::Head(head) => open.head(&head).into(),
+        Call::Head(
+            Head {
+                byte3,
+                csb,
+                cs,
+                map_type,
+                map_info,
+            },
+        ) => open.head(byte3, csb, cs, map_type, map_info).into(),
         Call::Add {
             position,
             code,

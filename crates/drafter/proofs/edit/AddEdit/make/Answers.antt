@@ -28,4 +28,4 @@ returns c =
     let spot = c.spot-spot.ensures.is in
     let names = naming_names s c.requires.draft n.header n.has x.position n.there c.spot-spot.result spot in
     subst (Leaves (add x.position x.code x.body.now) s) (sym c.end_at.ensures)
-    (inserted_leaves s x.position x.code x.body.now c.requires.draft n c.spot-spot.result spot _ names _ c.place.ensures c.octets.ensures)
+    (inserted_leaves s x.position x.code x.body.now c.requires.draft n c.spot-spot.result spot _ names _ c.place.ensures c.requires.widths)

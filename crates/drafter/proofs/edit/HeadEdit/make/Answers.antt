@@ -19,4 +19,4 @@ overflow_sub-end c = header_within c.args.core.now c.requires.draft
 pub returns : goal.returns
 returns c =
     subst (Leaves (head (headed c.args.self.now)) c.args.core.now) (sym c.end_at.ensures)
-    (headed_leaves c.args.core.now c.requires.draft (headed c.args.self.now) c.requires.asked _ c.first-next.result c.first-next.ensures c.put_header.ensures c.widths.ensures)
+    (headed_leaves c.args.core.now c.requires.draft (headed c.args.self.now) c.requires.asked _ c.first-next.result c.first-next.ensures c.put_header.ensures c.requires.widths)

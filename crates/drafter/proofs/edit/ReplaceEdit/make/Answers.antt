@@ -17,4 +17,4 @@ returns c =
     let n = replacement s x.position x.code x.body.now c.requires.draft.shown c.requires.asked in
     let p = c.requires.found in
     subst (Leaves (replace x.position x.code x.body.now) s) (sym c.end_at.ensures)
-    (changed_leaves s x.position x.code x.body.now c.requires.draft n c.args.part.spot p.spot c.args.part.size _ p.size p.next _ c.place.ensures c.octets.ensures)
+    (changed_leaves s x.position x.code x.body.now c.requires.draft n c.args.part.spot p.spot c.args.part.size _ p.size p.next _ c.place.ensures c.requires.widths)

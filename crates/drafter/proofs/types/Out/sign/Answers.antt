@@ -11,8 +11,8 @@ invariant_of-self c =
     let l = c.in-Signing.field-0 in
     subst (λ o. OutDraft o c.deliver.new.self) (sym c.in-Signing.is) (sign_still s w l c.args.signature.now c.deliver.new.self _ (c.in_err-length-in-Signing.ensures l) _ refl)
 
-pub returns-in_err-length-in-Signing : goal.returns-in_err-length-in-Signing
-returns-in_err-length-in-Signing c =
+pub returns-in_err-length-in-Signing-clause-turned : goal.returns-in_err-length-in-Signing-clause-turned
+returns-in_err-length-in-Signing-clause-turned c =
     let s = c.self.inside.core in
     let w = subst (λ o. OutDraft o s) c.in-Signing.is c.self.invariant in
     let l = c.in-Signing.field-0 in
@@ -26,8 +26,8 @@ invariant_of-self-in-Signing c =
     let l = c.in-Signing.field-0 in
     sign_signed s w l c.args.signature.now c.deliver.new.self _ (c.in_ok-length-in-Signing.ensures l) _ refl
 
-pub returns-in_ok-length-in-Signing : goal.returns-in_ok-length-in-Signing
-returns-in_ok-length-in-Signing c =
+pub returns-in_ok-length-in-Signing-clause-turned : goal.returns-in_ok-length-in-Signing-clause-turned
+returns-in_ok-length-in-Signing-clause-turned c =
     let s = c.self.inside.core in
     let w = subst (λ o. OutDraft o s) c.in-Signing.is c.self.invariant in
     let l = c.in-Signing.field-0 in
