@@ -11,7 +11,7 @@ mod row;
 mod slot;
 mod words;
 
-pub use bytes::{byte_at, octets};
+pub use bytes::byte_at;
 pub use field::Field;
 pub use kind::Kind;
 pub use limits::{LONGEST, MOST_PAYLOADS, SAKKE_MESSAGE, VERSION};
