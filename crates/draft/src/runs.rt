@@ -29,59 +29,45 @@ fn tell(rt: &HostRuntime, reply: Reply, encoding: &[u8]) -> io::Result<()> {
 // The lines that are left, each with its number.
 type Numbered<'a> = Zip<RangeInclusive<usize>, Lines<'a>>;
 
-fn told(rt: &HostRuntime, state: &State<'_>, reply: Reply) -> io::Result<()> {
-    tell(rt, reply, state.bytes())
+// A draft after a line, and why its call is not made or its answer not printed. A draft that may be
+// out can't be let go, as withdraw or release alone spends it: so no `?` passes it, and what may
+// fail gives it back.
+type Obeyed<'a> = (State<'a>, Result<(), Fault>);
+
+fn told<'a>(rt: &HostRuntime, state: State<'a>, reply: Reply) -> Obeyed<'a> {
+    let printed = tell(rt, reply, state.bytes()).map_err(Fault::Io);
+    (state, printed)
 }
 
-fn make<'a>(
-    rt: &HostRuntime,
-    state: State<'a>,
-    call: &Call<'_, Choice>,
-) -> (State<'a>, Result<(), Fault>) {
+fn make<'a>(rt: &HostRuntime, state: State<'a>, call: &Call<'_, Choice>) -> Obeyed<'a> {
     let (next, reply) = state.call(call);
-    let ended = match told(rt, &next, reply) {
-        Ok(()) => Ok(()),
-        Err(error) => Err(error.into()),
-    };
-    (next, ended)
+    told(rt, next, reply)
 }
 
 fn close<'a>(
     rt: &HostRuntime,
     state: State<'a>,
-    profile: &str,
+    name: &str,
     sign_type: u8,
     length: usize,
-) -> (State<'a>, Result<(), Fault>) {
-    match profile_of(rt, profile) {
-        Ok(profile) => {
-            let call = Call::Close {
-                profile: &profile,
-                sign_type,
-                length,
-            };
-            make(rt, state, &call)
-        }
-        Err(fault) => (state, Err(fault.into())),
-    }
+) -> Obeyed<'a> {
+    let profile = match profile_of(rt, name) {
+        Ok(profile) => profile,
+        Err(fault) => return (state, Err(fault)),
+    };
+    let call = Call::Close {
+        profile: &profile,
+        sign_type,
+        length,
+    };
+    make(rt, state, &call)
 }
 
 // Makes the call of a line with the bytes that it is given.
-fn make_line<'a>(
-    rt: &HostRuntime,
-    state: State<'a>,
-    line: Line<'_>,
-    bytes: &[u8],
-) -> (State<'a>, Result<(), Fault>) {
+fn make_line<'a>(rt: &HostRuntime, state: State<'a>, line: Line<'_>, bytes: &[u8]) -> Obeyed<'a> {
     let call = match line {
         Line::Blank => return (state, Ok(())),
-        Line::Begin(_) => {
-            let ended = match told(rt, &state, Reply::Misplaced) {
-                Ok(()) => Ok(()),
-                Err(error) => Err(error.into()),
-            };
-            return (state, ended);
-        }
+        Line::Begin(_) => return told(rt, state, Reply::Misplaced),
         Line::Head { head, .. } => Call::Head(Head {
             map_info: bytes,
             ..head
@@ -109,25 +95,25 @@ fn make_line<'a>(
     make(rt, state, &call)
 }
 
-fn obey<'a>(rt: &HostRuntime, state: State<'a>, text: &str) -> (State<'a>, Result<(), Fault>) {
-    let Some(line) = parse(text) else {
-        return (state, Err(Fault::NoCall));
-    };
-    match bytes_of(rt, line.spelled()) {
-        Ok(bytes) => make_line(rt, state, line, &bytes),
-        Err(error) => (state, Err(error.into())),
+// What a line asks for, and the bytes that it spells.
+fn asked<'a>(rt: &HostRuntime, text: &'a str) -> Result<(Line<'a>, Vec<u8>), Fault> {
+    let line = parse(text).ok_or(Fault::NoCall)?;
+    let bytes = bytes_of(rt, line.spelled())?;
+    Ok((line, bytes))
+}
+
+fn obey<'a>(rt: &HostRuntime, state: State<'a>, text: &str) -> Obeyed<'a> {
+    match asked(rt, text) {
+        Ok((line, bytes)) => make_line(rt, state, line, &bytes),
+        Err(fault) => (state, Err(fault)),
     }
 }
 
 fn obey_all<'a>(
     rt: &HostRuntime,
-    state: State<'a>,
+    mut state: State<'a>,
     lines: Numbered<'_>,
 ) -> (State<'a>, anyhow::Result<()>) {
-    if let Err(error) = told(rt, &state, Reply::Done) {
-        return (state, Err(error.into()));
-    }
-    let mut state = state;
     for (number, text) in lines {
         let (next, obeyed) = obey(rt, state, text);
         state = next;
@@ -159,7 +145,9 @@ fn start(rt: &HostRuntime, lines: &mut Numbered<'_>) -> anyhow::Result<Option<Ro
 }
 
 fn draft_by(rt: &HostRuntime, lines: Numbered<'_>, buffer: &mut [u8]) -> anyhow::Result<()> {
-    let (state, ended) = obey_all(rt, State::Open(begin(buffer)), lines);
+    let open = begin(buffer);
+    tell(rt, Reply::Done, open.bytes())?;
+    let (state, ended) = obey_all(rt, State::Open(open), lines);
     let _buffer = state.end();
     ended
 }
