@@ -3,18 +3,23 @@ use Rattle.std.proofs.Common.{◌≡◌, ℕ, ◌≤◌, Bool, true, false, eqb,
 use Rattle.std.specs.List.{AllByRecursion}
 use Rattle.std.proofs.lemmas.Bool.{eqb-true}
 use Rattle.std.proofs.ByRecursion.{All-take, All-drop}
-use Rattle.wire.specs.Messages.{Header, Message, encode}
+use Rattle.wire.specs.declared.refusal.Refusal.TheVariants.{NotPassed}
+use Rattle.wire.specs.declared.row.Row.{Row}
+use Rattle.wire.specs.declared.row.Walked.{Walked}
+use Rattle.wire.specs.Messages.{Header, Message, encode, span}
 use Rattle.wire.specs.Lawful.{Lawful}
-use Rattle.wire.specs.Rows.{rows}
-use Rattle.wire.specs.Answers.{Answer}
+use Rattle.wire.specs.Rows.{rows, walked_of}
+use Rattle.wire.specs.Answers.{Answer, check, map_ok}
 use Rattle.wire.specs.Walking.{walking}
-use Rattle.wire.proofs.Answers.{same_ok}
+use Rattle.wire.proofs.Answers.{same_ok, never_ok}
 use Rattle.wire.proofs.Messages.{read_back}
 use Rattle.profile.specs.Tables.{Tables}
 use Rattle.profile.specs.Admits.{Admits}
 use Rattle.profile.specs.Admitting.{admitting}
-use Rattle.profile.proofs.Admitted.{admits_passed}
-use Rattle.verifier.specs.Signed.{signed_in}
+use Rattle.profile.proofs.Admitted.{admits_passed, admitted_passes}
+use Rattle.walk.specs.Walks.{tabled}
+use Rattle.verifier.specs.Signed.{Signed, signed_in}
+use Rattle.reader.specs.Reading.{reading, reading_into}
 use Rattle.reader.proofs.Promises.{read_good, passed_all}
 use Rattle.plain.specs.declared.calls.Reply.{Reply}
 use Rattle.plain.specs.declared.calls.Reply.TheVariants.{Done, Delivered, Released, Refused, Misplaced}
@@ -27,8 +32,9 @@ use Rattle.plain.specs.Turns.{Refusing}
 use Rattle.plain.specs.Kept.{SignKept, Kept, Widths}
 use Rattle.plain.proofs.Keeping.{sound_lawful, closable, step_kept, begin_kept}
 use Rattle.exchange.specs.Runs.{end_of, force, in_force}
-use Rattle.exchange.specs.Promise.{Delivery, Delivering, DeliversWhatItHolds}
+use Rattle.exchange.specs.Promise.{Judgement, Delivery, Delivering, DeliversWhatItHolds}
 use Rattle.exchange.proofs.Alike.{admits_alike}
+use Rattle.exchange.proofs.Exactly.{enough_rows}
 
 -- the message of a draft where SIGN stands is lawful
 lawful_held : (room : ℕ) (s : Draft) (h : Header) (g : Sign) → room ≤ 8192 → Kept room s → s.held.header ≡ Some h → standing s.stage ≡ Some g → Lawful (signed_as h s.held.payloads g)
@@ -108,6 +114,31 @@ run_reached room s p (c ∷ cs) most w r =
 pub begin_reached : (room : ℕ) → Reached room begin None
 begin_reached room = record { kept = begin_kept room; ready = tt }
 
+-- a message that a profile admits, if the verifier passes it or not
+reading_lawful : (T : Tables) (V : Signed → Bool) (m : Message) → Lawful m → Admits T m
+    → reading T V (encode m) ≡ check (V (signed_in m)) (NotPassed (length (span m))) (Ok m)
+reading_lawful T V m l a = rw (read_back m l, admitted_passes T m l a)
+
+-- what read answers of it
+judgement : (m : Message) (passes : Bool) (before after : List Row) (answer : Answer Walked) (r : Answer Message)
+    → r ≡ check passes (NotPassed (length (span m))) (Ok m) → answer ≡ map_ok walked_of r → after ≡ tabled r before → Judgement m passes before answer after
+judgement m true before after answer r e value rows =
+    let is : answer ≡ Ok (walked_of m) = value ∙ ap (map_ok walked_of) e in
+    record {
+      accepted = (λ p. is, λ q. refl);
+      only = λ w q. refl;
+      rows = λ p. rows ∙ ap (λ x. tabled x before) e;
+      refused = λ p. absurd (cc p);
+    }
+judgement m false before after answer r e value rows =
+    let is : answer ≡ Err (NotPassed (length (span m))) = value ∙ ap (map_ok walked_of) e in
+    record {
+      accepted = (λ p. absurd (cc p), λ q. absurd (never_ok _ (walked_of m) (sym is ∙ q)));
+      only = λ w q. absurd (never_ok _ w (sym is ∙ q));
+      rows = λ p. absurd (cc p);
+      refused = λ p. (is, rows ∙ ap (λ x. tabled x before) e);
+    }
+
 -- a lawful message that a profile admits is read under it exactly if the verifier passes it
 delivery : (T : Tables) (m : Message) (bytes : List ℕ) → bytes ≡ encode m → Lawful m → Admits T m → Delivery T m bytes
 delivery T m bytes e l a = record {
@@ -118,6 +149,10 @@ delivery T m bytes e l a = record {
   only = λ V other q.
       let p = passed_all T V bytes other q in
       subst (λ x. V (signed_in x) ≡ true) (same_ok other m (sym p.walked ∙ ap walking e ∙ read_back m l)) p.passed;
+  reads = λ V before after answer h r.
+      let is : reading_into (length before) T V bytes ≡ check (V (signed_in m)) (NotPassed (length (span m))) (Ok m) =
+      enough_rows (length before) T V bytes h ∙ ap (reading T V) e ∙ reading_lawful T V m l a in
+      judgement m (V (signed_in m)) before after answer _ is r.value r.rows;
 }
 
 refusing_delivers : (r : Reply) (n : ℕ) → Refusing r → r ≡ Delivered n → ⊥

@@ -18,8 +18,9 @@ use Rattle.plain.specs.Drafts.{Draft, begin, counted, image}
 use Rattle.plain.specs.Steps.{Step, step}
 use Rattle.plain.specs.Steps.Step.{release}
 use Rattle.plain.specs.Turns.{Turns}
+use Rattle.wire.specs.Answers.{reported}
 use Rattle.exchange.specs.Runs.{end_of, drafting}
-use Rattle.exchange.specs.Redrafts.{Tells, Drafts, Redrafts}
+use Rattle.exchange.specs.Redrafts.{Tells, Drafts, redrafting, Redrafts}
 use Rattle.exchange.proofs.Running.{Reached, reached_first, reached_next, reached_of, reached_end, reached_image, begun_again}
 use Rattle.exchange.proofs.Again.{drafting_ends, again}
 use Rattle.exchange.proofs.Listed.{drafting_long, few, admits}
@@ -67,8 +68,10 @@ module _ (T : Tables) (V : Signed → Bool) (bytes buffer : List ℕ) (m : Messa
   pub redrafts_short : length buffer < length bytes → Redrafts T V bytes buffer buffer (Err NoRoom)
   redrafts_short h =
       let short : leb (length bytes) (length buffer) ≡ false = lt-leb _ _ h in
+      let value : Err NoRoom ≡ redrafting (length buffer) T V bytes = rw (read, short) in
       record {
-        value = rw (read, short);
+        value = value;
+        told = ap reported value;
         drafted = λ other n r e. absurd (never_ok NoRoom n e);
         same = λ n e. absurd (never_ok NoRoom n e);
         unchanged = λ f e. refl;
@@ -80,8 +83,10 @@ module _ (T : Tables) (V : Signed → Bool) (bytes buffer : List ℕ) (m : Messa
       let g = good_read T V bytes m y read in
       let d = drafts m g.1.lawful g.0 in
       let a = again T V bytes m buffer y read h in
+      let value : Ok n ≡ redrafting (length buffer) T V bytes = rw (read, fits) (ap Ok d.1) in
       record {
-        value = rw (read, fits) (ap Ok d.1);
+        value = value;
+        told = ap reported value;
         drafted = λ other k r e.
             let is : other ≡ m = same_ok other m (sym r ∙ read) in
             (again T V bytes other buffer y r h, d.0 ∙ ap (λ x. image buffer (end_of buffer (drafting T x))) (sym is));
