@@ -1,7 +1,7 @@
 -- A run of calls, one after the other.
-use Rattle.std.proofs.Common.{◌≡◌, ℕ, ◌+◌, ◌<◌, ◌≤◌, min, List, [], ◌∷◌, ◌++◌, length, get_or, take, drop, set, sym, refl, ap, ◌∙◌, subst, ap₂, append_assoc, append-nil, arith}
+use Rattle.std.proofs.Common.{◌≡◌, ℕ, ◌+◌, ◌<◌, ◌≤◌, min, List, [], ◌∷◌, ◌++◌, map, length, get_or, take, drop, set, sym, refl, ap, ◌∙◌, subst, ap₂, append_assoc, append-nil, arith}
 use Rattle.std.specs.List.{AllByRecursion}
-use Rattle.std.proofs.lemmas.List.{at_drop_more, at_drop_all, take_all, drop_all, take_more_set, length-map, get_or-map, length-take, same_lists, places}
+use Rattle.std.proofs.lemmas.List.{at_drop_more, at_drop_all, take_all, drop_all, take_more_set, length-map, get_or-map, length-take, length-take-le, take-map}
 use Rattle.std.proofs.ByRecursion.{All-more}
 use Rattle.profile.specs.Tables.{Tables}
 use Rattle.plain.specs.declared.calls.Call.{Call}
@@ -11,7 +11,8 @@ use Rattle.plain.specs.Steps.{Step, called, step, replies, ends}
 use Rattle.plain.specs.Kept.{Widths}
 use Rattle.plain.specs.Turns.{Turns}
 use Rattle.plain.proofs.Turning.{image_long, image_past, image_same}
-use Rattle.exchange.specs.Runs.{steps_of, end_of, replies_of, Runs}
+use Rattle.plain.specs.Outcomes.{outcome}
+use Rattle.exchange.specs.Runs.{steps_of, end_of, replies_of, replies_after, Runs, all_made}
 
 -- i calls are made: what is left leads to the draft of all
 pub record Reached (buffer : List ℕ) (cs : List Step) (i : ℕ) (s : Draft) (bytes : List ℕ) : Type 0 where
@@ -93,22 +94,26 @@ module _ (start buffer : List ℕ) (cs : List Step) (i : ℕ) (s : Draft) (bytes
   reached_image =
       r.is ∙ image_same start buffer s same_start (ap (drop (counted buffer)) begun ∙ image_past buffer begin (omega arith)) ∙ ap (image buffer) reached_end
 
-  module _ (before rs : List Reply) (a : Answered start cs i s rs) (full : length rs ≤ i) (done : length before ≤ length cs) where
-    pub reached_runs : (n : ℕ) → n ≡ length (encoded s) → Runs cs buffer before bytes rs n
+  module _ (before rs : List Reply) (a : Answered start cs i s rs) (full : length rs ≤ i) (done : length before ≡ length cs) where
+    pub reached_runs : (k n : ℕ) → k ≡ length cs → n ≡ length (encoded s) → Runs cs buffer bytes before rs (record { calls = k; length = n })
     unfolding replies
-    reached_runs n e = record {
-      bytes = reached_image;
-      answers =
-          let none : drop (length cs) before ≡ [] = drop_all (length cs) before done in
-          sym (take_all i rs full) ∙ sym (append-nil (take i rs)) ∙ ap (λ x. take i rs ++ x) (sym (at_drop_all (replies (counted start) s) cs i all)) ∙ a.answers
-          ∙ ap (λ n. replies n begin cs) starts ∙ sym (ap (λ x. replies_of buffer cs ++ x) none ∙ append-nil (replies_of buffer cs));
-      encoding = e ∙ ap (λ x. length (encoded x)) reached_end;
-      long = r.long ∙ same_start;
-      past = subst (λ k. drop k bytes ≡ drop k start) starts r.past ∙ ap (drop (counted buffer)) begun ∙ image_past buffer begin (omega arith);
-    }
-
-    pub reached_widths : AllByRecursion Widths cs
-    reached_widths = subst (AllByRecursion Widths) (take_all i cs all) a.widths
+    reached_runs k n f e =
+        let whole : take k cs ≡ cs = take_all k cs (omega arith) in
+        let answers : rs ≡ replies_after buffer cs k before =
+        let none : drop k before ≡ [] = drop_all k before (omega arith) in
+        sym (take_all i rs full) ∙ sym (append-nil (take i rs)) ∙ ap (λ x. take i rs ++ x) (sym (at_drop_all (replies (counted start) s) cs i all)) ∙ a.answers
+        ∙ ap (λ n. replies n begin cs) starts ∙ sym (ap (λ x. replies_of buffer cs ++ x) none ∙ append-nil (replies_of buffer cs))
+        ∙ ap (λ x. replies_of buffer x ++ drop k before) (sym whole) in
+        record {
+          count = omega arith;
+          widths = subst (AllByRecursion Widths) (take_all i cs all ∙ sym whole) a.widths;
+          bytes = reached_image ∙ ap (λ x. image buffer (end_of buffer x)) (sym whole);
+          answers = answers;
+          told = ap (map outcome) answers;
+          encoding = e ∙ ap (λ x. length (encoded x)) (reached_end ∙ ap (end_of buffer) (sym whole));
+          long = r.long ∙ same_start;
+          past = subst (λ k. drop k bytes ≡ drop k start) starts r.past ∙ ap (drop (counted buffer)) begun ∙ image_past buffer begin (omega arith);
+        }
 
 pub begun_again : (buffer start : List ℕ) → start ≡ image buffer begin → start ≡ image start begin
 begun_again buffer start e =
@@ -124,19 +129,23 @@ steps_long tables calls = length-map calls (called tables)
 
 -- as many calls as there is room for replies
 module _ {P : Type 0} (tables : P → Tables) (calls : List (Call P)) (before : List Reply) (n : ℕ) (e : n ≡ min (length calls) (length before)) where
-  pub made : take n calls ≡ take (length before) calls
-  made = same_lists _ _ (simp length-take (omega arith)) (λ k d h. grind (arith, places))
-
-  pub runs_made : (buffer left : List ℕ) (after : List Reply) (k : ℕ) → Runs (steps_of tables (take n calls)) buffer (take n before) left after k
-      → Runs (steps_of tables (take (length before) calls)) buffer before left (after ++ drop n before) k
+  pub runs_made : (buffer left : List ℕ) (after : List Reply) (k : ℕ) → Runs (steps_of tables (take n calls)) buffer left (take n before) after (all_made (take n calls) k)
+      → Runs (steps_of tables calls) buffer left before (after ++ drop n before) (record { calls = n; length = k })
   runs_made buffer left after k r =
-      let cs : List Step = steps_of tables (take n calls) in
-      let m : length cs ≡ n = steps_long tables (take n calls) ∙ simp length-take (omega arith) in
-      let none : drop (length cs) (take n before) ≡ [] = drop_all (length cs) (take n before) (simp length-take (omega arith)) in
-      subst (λ x. Runs (steps_of tables x) buffer before left (after ++ drop n before) k) made (record {
-        bytes = r.bytes;
-        answers = ap (λ x. x ++ drop n before) (r.answers ∙ ap (λ x. replies_of buffer cs ++ x) none ∙ append-nil (replies_of buffer cs)) ∙ ap (λ x. replies_of buffer cs ++ drop x before) (sym m);
-        encoding = r.encoding;
+      let m : length (take n calls) ≡ n = length-take-le n calls (omega arith) in
+      let cs : List Step = steps_of tables calls in
+      let made : take (length (take n calls)) (steps_of tables (take n calls)) ≡ take n cs =
+      take_all _ (steps_of tables (take n calls)) (omega (arith, steps_long tables (take n calls))) ∙ sym (take-map (called tables) n calls) in
+      let none : drop (length (take n calls)) (take n before) ≡ [] = drop_all _ (take n before) (simp length-take (omega arith)) in
+      let answers : after ++ drop n before ≡ replies_after buffer cs n before =
+      ap (λ x. x ++ drop n before) (r.answers ∙ ap₂ (λ x y. replies_of buffer x ++ y) made none ∙ append-nil (replies_of buffer (take n cs))) in
+      record {
+        count = omega (arith, steps_long tables calls);
+        widths = subst (AllByRecursion Widths) made r.widths;
+        bytes = r.bytes ∙ ap (λ x. image buffer (end_of buffer x)) made;
+        answers = answers;
+        told = ap (map outcome) answers;
+        encoding = r.encoding ∙ ap (λ x. length (encoded (end_of buffer x))) made;
         long = r.long;
         past = r.past;
-      })
+      }

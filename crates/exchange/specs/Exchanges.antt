@@ -1,4 +1,4 @@
--- The whole way of a message: drafted, read at a station, and drafted again for the archive.
+-- The whole way of messages: one is drafted, and one that came in is read and drafted again.
 use Rattle.std.specs.Prelude.{ℕ, Bool, List, take}
 use Rattle.wire.specs.declared.row.Row.{Row}
 use Rattle.profile.specs.Tables.{Tables}
@@ -11,10 +11,23 @@ use Rattle.exchange.specs.Runs.{Runs}
 use Rattle.exchange.specs.Promise.{Delivers}
 use Rattle.exchange.specs.Redrafts.{Redrafts}
 
--- calls on a buffer leave it and the replies so; the station reads what is then held into its rows, and the archive's buffer has it again
-pub record Exchanges (cs : List Step) (T : Tables) (V : Signed → Bool) (buffer left : List ℕ) (replies replied : List Reply)
-    (rows told : List Row) (archive archived : List ℕ) (r : Exchanged) : Type 0 where
-  pub runs : Runs cs buffer replies left replied r.length
-  pub delivers : Delivers buffer cs
-  pub reads : Reads T V (take r.length left) rows r.read told
-  pub redrafts : Redrafts T V (take r.length left) archive archived r.again
+-- what the caller lends: a buffer and replies for the draft, rows for the station, and the
+-- archive's buffer
+pub record Lent : Type 0 where
+  pub buffer : List ℕ
+  pub replies : List Reply
+  pub rows : List Row
+  pub archive : List ℕ
+
+abbrev pub lent : List ℕ → List Reply → List Row → List ℕ → Lent
+lent buffer replies rows archive =
+    record { buffer = buffer; replies = replies; rows = rows; archive = archive }
+
+-- the calls on a draft leave its buffer and the replies so; the station reads the incoming bytes
+-- into its rows, and the archive drafts these bytes again, whatever the draft holds
+pub record Exchanges (cs : List Step) (T : Tables) (V : Signed → Bool) (incoming : List ℕ)
+    (before after : Lent) (r : Exchanged) : Type 0 where
+  pub runs : Runs cs before.buffer after.buffer before.replies after.replies r.made
+  pub delivers : Delivers before.buffer (take r.made.calls cs)
+  pub reads : Reads T V incoming before.rows r.read after.rows
+  pub redrafts : Redrafts T V incoming before.archive after.archive r.again

@@ -1,5 +1,6 @@
 -- Runs of calls on a draft.
-use Rattle.std.specs.Prelude.{◌≡◌, ℕ, suc, ◌+◌, List, [], ◌∷◌, ◌++◌, map, length, drop, replicate, Some, None, Option}
+use Rattle.std.specs.Prelude.{◌≡◌, ℕ, suc, ◌+◌, min, List, [], ◌∷◌, ◌++◌, map, length, take, drop, replicate, Some, None, Option}
+use Rattle.std.specs.List.{AllByRecursion}
 use Rattle.wire.specs.Kinds.{code_of}
 use Rattle.wire.specs.Messages.{Payload, Message}
 use Rattle.profile.specs.Tables.{Tables}
@@ -11,6 +12,9 @@ use Rattle.plain.specs.Drafts.Stage.{opened, signing, faulty, released}
 use Rattle.plain.specs.Edits.Edit.{head, add}
 use Rattle.plain.specs.Steps.{Step, called, step, replies, ends}
 use Rattle.plain.specs.Steps.Step.{edit, close, sign, withdraw, release}
+use Rattle.plain.specs.Kept.{Widths}
+use Rattle.plain.specs.Outcomes.{outcome}
+use Rattle.exchange.specs.declared.runs.Made.{Made}
 
 -- calls as the plain draft takes them, a profile as its tables
 abbrev pub steps_of : {P : Type 0} → (P → Tables) → List (Call P) → List Step
@@ -23,14 +27,28 @@ end_of buffer cs = ends (counted buffer) begin cs
 abbrev pub replies_of : List ℕ → List Step → List Reply
 replies_of buffer cs = replies (counted buffer) begin cs
 
--- what a run leaves in its buffer and its table of replies, and the length of the encoding then held
-pub record Runs (cs : List Step) (buffer : List ℕ) (before : List Reply) (left : List ℕ) (after : List Reply) (held : ℕ) : Type 0 where
-  pub bytes : left ≡ image buffer (end_of buffer cs)
-  pub answers : after ≡ replies_of buffer cs ++ drop (length cs) before
-  pub encoding : held ≡ length (encoded (end_of buffer cs))
+-- the table of replies once the first n calls are made: the replies past theirs are as they were
+abbrev pub replies_after : List ℕ → List Step → ℕ → List Reply → List Reply
+replies_after buffer cs n before = replies_of buffer (take n cs) ++ drop n before
+
+-- what a run of a list of calls leaves in its buffer and its table of replies, and what it answers
+pub record Runs (cs : List Step) (buffer left : List ℕ) (before after : List Reply) (made : Made)
+    : Type 0 where
+  -- as many calls are made as there is room for replies
+  pub count : made.calls ≡ min (length cs) (length before)
+  pub widths : AllByRecursion Widths (take made.calls cs)
+  pub bytes : left ≡ image buffer (end_of buffer (take made.calls cs))
+  pub answers : after ≡ replies_after buffer cs made.calls before
+  -- a refusal by its number, place and detail
+  pub told : map outcome after ≡ map outcome (replies_after buffer cs made.calls before)
+  pub encoding : made.length ≡ length (encoded (end_of buffer (take made.calls cs)))
   pub long : length left ≡ length buffer
   -- bytes past the counted ones never change
   pub past : drop (counted buffer) left ≡ drop (counted buffer) buffer
+
+-- every call was made, and so many bytes are held
+abbrev pub all_made : {P : Type 0} → List (Call P) → ℕ → Made
+all_made calls n = record { calls = length calls; length = n }
 
 -- the profile of the close in force: one that an open draft took and that was not withdrawn since
 abbrev on_close : Step → Option Tables → Option Tables
@@ -57,13 +75,16 @@ unfoldable pub in_force : ℕ → Draft → Option Tables → List Step → Opti
 in_force counted s p [] = p
 in_force counted s p (c ∷ cs) = in_force counted (step counted s c).draft (force s.stage c p) cs
 
--- the calls that draft a message anew from its own records: head, add at the end in turn, close and sign
+-- the calls that draft a message anew from its own records: head, add at the end in turn, close
+-- and sign
 unfoldable pub adds : ℕ → List Payload → List Step
 adds i [] = []
 adds i (p ∷ ps) = edit (add i (code_of p.kind) p.body) ∷ adds (suc i) ps
 
 abbrev pub drafting : Tables → Message → List Step
-drafting T m = edit (head m.header) ∷ (adds 0 m.payloads ++ (close T m.sign_type (length m.signature) ∷ (sign m.signature ∷ [])))
+drafting T m =
+    edit (head m.header) ∷ (adds 0 m.payloads
+    ++ (close T m.sign_type (length m.signature) ∷ (sign m.signature ∷ [])))
 
 -- each is accepted, and sign delivers so many bytes
 abbrev pub accepted : Message → ℕ → List Reply

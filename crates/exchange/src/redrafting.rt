@@ -26,8 +26,8 @@ fn head_of<'a>(message: &'a [u8], header: usize) -> Head<'a>
     }
 }
 
-// Makes the calls that draft a message which was read: head, add for each payload but SIGN, close and sign. None is refused.
-// Answers the length delivered, and gives the buffer back.
+// Makes the calls that draft a message which was read: head, add for each payload but SIGN, close
+// and sign. None is refused. Answers the length delivered, and gives the buffer back.
 fn draft_again<'a, P: Profile>(
     message: &[u8],
     rows: &[Row],
@@ -55,15 +55,19 @@ fn draft_again<'a, P: Profile>(
     out.release()
 }
 
-// Reads a message under a profile and a verifier and drafts it again from its own records, in the buffer. Answers its length.
-// It refuses what read refuses, and a message that is longer than the buffer; the buffer is then as it was.
+/// Reads a message under a profile and a verifier, and drafts it again from its own records in the
+/// buffer. Answers its length in bytes.
+///
+/// It refuses what read refuses, and by `NoRoom` a message that is longer than the buffer, which is
+/// then as it was.
 pub fn redraft<P: Profile, V: Verifier>(
     message: &[u8],
     profile: &P,
     verifier: &V,
     buffer: &mut [u8],
 ) -> Result<usize, Refusal>
-    ensures { Redrafts (P.tables profile.now) (V.passing verifier.now) message.now buffer.old buffer.new result }
+    ensures { Redrafts (P.tables profile.now) (V.passing verifier.now) message.now
+        buffer.old buffer.new result }
 {
     let mut rows = [Row::BLANK; MOST_PAYLOADS];
     let walked = read(message, &mut rows, profile, verifier)?;

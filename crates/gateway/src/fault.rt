@@ -1,8 +1,9 @@
-// Why the message does not go its way to the end.
+// What ends the way of the message.
 use std::io;
 use thiserror::Error;
 use wire::Refusal;
 
+/// Why the message does not go its way to the end.
 #[derive(Debug, Drop, Error)]
 pub enum Fault {
     #[error("{0}")]

@@ -2,9 +2,10 @@
 use plain::Head;
 use wire::Kind;
 
-// The group server, which signs.
+/// The group server, which signs.
 pub const SERVER: [u8; 21] = *b"sip:gms@line4.example";
 
+/// The header.
 pub const HEAD: Head<'static> = Head {
     byte3: 1,
     csb: 0x000a_3c51,
@@ -34,10 +35,10 @@ const RESPONDER_KMS: [u8; 21] = *b"\x07\x01\x00\x11kms.line4.example";
 // A security policy without encryption.
 const PLAIN_POLICY: [u8; 7] = [0, 0, 0, 3, 0, 1, 0];
 
-// The one in its place: AES, with a key of 16 bytes.
+/// The one in its place: AES, with a key of 16 bytes.
 pub const POLICY: [u8; 10] = [0, 0, 0, 6, 0, 1, 1, 1, 1, 16];
 
-// One that is refused: its second item has no value.
+/// One that is refused: its second item has no value.
 pub const CUT_POLICY: [u8; 9] = [0, 0, 0, 5, 0, 1, 1, 1, 1];
 
 // The group key, encapsulated.
@@ -57,7 +58,7 @@ const PARAMETERS: [u8; 43] = [
     0x9b, 0x36, 0xea, 0x7a, 0x02, 0xd8, 0x2e, 0x90, 0x8c, 0xf1, 0x2c,
 ];
 
-// A payload as add is given it.
+/// A payload as add is given it.
 #[derive(Clone, Copy)]
 pub struct Payload {
     pub kind: Kind,
@@ -68,9 +69,10 @@ const fn of(kind: Kind, body: &'static [u8]) -> Payload {
     Payload { kind, body }
 }
 
-// Where the security policy stands.
+/// Where the security policy stands.
 pub const POLICY_AT: usize = 6;
 
+/// The payloads in their order, with the security policy that is changed later.
 pub fn payloads() -> [Payload; 9] {
     [
         of(Kind::T, &TIME),

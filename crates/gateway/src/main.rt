@@ -1,5 +1,6 @@
-// A group key message on its whole way: the group server drafts it, a first station reads it, a second one gets the same key in another
-// order of payloads, reads and loads it, and both draft what they read again for the archive.
+//! A group key message on its whole way: the group server drafts it, and it is spoiled on the way;
+//! it is drafted once more, and a first station reads it; a second one gets the same key in another
+//! order of payloads, reads and loads it; and both draft what they read again for the archive.
 #![tactic(auto)]
 
 mod fault;

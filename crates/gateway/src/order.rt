@@ -82,7 +82,8 @@ fn tell_delivery(
     told(rt, &Call::Release, Reply::Released(length))
 }
 
-// Answers the length of the message. A draft that is out can't be let go, so that what is told of it is told once it has ended.
+/// Drafts the message, and answers its length. A draft that is out can't be let go, so that what is
+/// told of it is told once it has ended.
 pub fn reordered(
     rt: &HostRuntime,
     message: &Message,

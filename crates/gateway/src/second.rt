@@ -1,4 +1,5 @@
-// The second station reads the key in its own order, loads it, and drafts the message again for the archive.
+// The second station reads the key in its own order, loads it, and drafts the message again for its
+// archive.
 use crate::fault::Fault;
 use crate::first::Message;
 use crate::order::reordered;
@@ -49,6 +50,8 @@ fn read_twice(
     Ok(())
 }
 
+/// The second station's part: the message for it is drafted, refused under the sheet of the first,
+/// read under its own, loaded and drafted again.
 pub fn second(rt: &HostRuntime, first: &Message, list: &Trust) -> Result<(), Fault> {
     let sheet = Sheet::parse(SECOND_SHEET.as_bytes())?;
     let mut buffer = [0xff; ROOM];

@@ -2,7 +2,7 @@
 use crate::key::{CUT_POLICY, HEAD, POLICY, POLICY_AT, SERVER, payloads};
 use crate::part::front;
 use crate::stations::{KEY, ROOM, SIGN_LENGTH, SIGN_TYPE};
-use exchange::run;
+use exchange::{Made, run};
 use plain::{Call, Reply};
 use profile::Fixed;
 use std::io;
@@ -40,33 +40,45 @@ fn add_payloads(calls: &mut Calls<'_>) -> io::Result<()> {
     Ok(())
 }
 
-// The edits and the close, from which on the span is known.
-fn until_close<'a>(rt: &HostRuntime, profile: &'a Fixed) -> io::Result<Calls<'a>> {
+// The header and the payloads.
+fn records(rt: &HostRuntime) -> io::Result<Calls<'static>> {
     let mut calls = Vec::new(rt.alloc());
     calls.push(Call::Head(HEAD))?;
     add_payloads(&mut calls)?;
-    calls.push(add_sign())?;
-    calls.push(change_policy(&CUT_POLICY))?;
-    calls.push(change_policy(&POLICY))?;
-    calls.push(Call::Close {
-        profile,
-        sign_type: SIGN_TYPE,
-        length: SIGN_LENGTH,
-    })?;
     Ok(calls)
 }
 
-// The signature of the message. It is over all but itself, so those calls are made once without it.
+fn close(profile: &Fixed) -> Call<'_, Fixed> {
+    Call::Close {
+        profile,
+        sign_type: SIGN_TYPE,
+        length: SIGN_LENGTH,
+    }
+}
+
+// The edits and the close, from which on the span is known.
+fn until_close<'a>(rt: &HostRuntime, profile: &'a Fixed) -> io::Result<Calls<'a>> {
+    let mut calls = records(rt)?;
+    calls.push(add_sign())?;
+    calls.push(change_policy(&CUT_POLICY))?;
+    calls.push(change_policy(&POLICY))?;
+    calls.push(close(profile))?;
+    Ok(calls)
+}
+
+/// The signature of the message. It is over all but itself, so those calls are made once without
+/// it.
 pub fn signature(rt: &HostRuntime, profile: &Fixed) -> io::Result<[u8; SIGN_LENGTH]> {
     let calls = until_close(rt, profile)?;
     let mut buffer = [0; ROOM];
     let mut replies = vec![in rt.alloc(); Reply::Done; calls.len()]?;
-    let length = run(&mut buffer, &calls, &mut replies);
+    let Made { length, .. } = run(&mut buffer, &calls, &mut replies);
     let span = front(&buffer, length.saturating_sub(SIGN_LENGTH));
     Ok(KEY.sign(&SERVER, span))
 }
 
-// All calls. After the close an edit, which a draft that is out does not take, and a signature that is too short.
+/// All calls. After the close an edit, which a draft that is out does not take, and a signature
+/// that is too short.
 pub fn calls<'a>(
     rt: &HostRuntime,
     profile: &'a Fixed,
@@ -77,5 +89,19 @@ pub fn calls<'a>(
     calls.push(Call::Sign(&signature[1..]))?;
     calls.push(Call::Sign(signature))?;
     calls.push(Call::Release)?;
+    Ok(calls)
+}
+
+/// The calls for the same message again, of which none is refused. They leave the draft out: it is
+/// released when the list is over.
+pub fn calls_once_more<'a>(
+    rt: &HostRuntime,
+    profile: &'a Fixed,
+    signature: &'a [u8; SIGN_LENGTH],
+) -> io::Result<Calls<'a>> {
+    let mut calls = records(rt)?;
+    calls.push(change_policy(&POLICY))?;
+    calls.push(close(profile))?;
+    calls.push(Call::Sign(signature))?;
     Ok(calls)
 }

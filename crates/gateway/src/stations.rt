@@ -1,25 +1,28 @@
-// What the server and the stations have agreed on: the sheets, the key of the tag, and whom to trust.
+// What the server and the stations have agreed on: the sheets, the key of the tag, and whom to
+// trust.
 use crate::key::SERVER;
 use crate::tell;
 use std::io;
 use verifier::{KeyTag, TrustList};
 
+/// The key of the tag.
 pub const KEY: KeyTag = KeyTag {
     key: 0x0123_4567_89ab_cdef,
 };
 
-// Whom both stations trust, if the tag is right.
+/// Whom both stations trust, if the tag is right.
 pub type Trust = TrustList<KeyTag>;
 
-// What SIGN is closed with.
+/// The S type that SIGN is closed with.
 pub const SIGN_TYPE: u8 = 2;
 
+/// The length of the signature, in bytes.
 pub const SIGN_LENGTH: usize = 8;
 
-// The length of each buffer, more than any message here has.
+/// The length of each buffer, more than any message here has.
 pub const ROOM: usize = 320;
 
-// T and RAND, the identities, SP, SAKKE, the key parameters, SIGN.
+/// T and RAND, the identities, SP, SAKKE, the key parameters, SIGN.
 pub const FIRST_SHEET: &str = "slot least most rank
 1 1 1 0
 2 1 1 0
@@ -33,7 +36,7 @@ pub const FIRST_SHEET: &str = "slot least most rank
 11 1 1 5
 ";
 
-// SAKKE before all others, and these as at the first station.
+/// SAKKE before all others, and these as at the first station.
 pub const SECOND_SHEET: &str = "slot least most rank
 1 1 1 1
 2 1 1 1
@@ -54,7 +57,7 @@ fn enter(rt: &HostRuntime, list: &mut Trust, signer: &[u8]) -> io::Result<()> {
     }
 }
 
-// The group server alone is trusted: a signer of no bytes can't be.
+/// The group server alone is trusted: a signer of no bytes can't be.
 pub fn trusted(rt: &HostRuntime) -> io::Result<Trust> {
     let mut list = TrustList::new(KEY);
     println!(rt; "The stations trust a signer of no bytes.")?;

@@ -6,7 +6,8 @@ use std::alloc::AllocError;
 use std::io;
 use wire::{Refusal, Row, Walked};
 
-// Bytes in lower-case digits, `-` for none. The program draft has the same: programs share no crate.
+// Bytes in lower-case digits, `-` for none. The program draft has the same: programs share no
+// crate.
 fn spelled(rt: &HostRuntime, bytes: &[u8]) -> Result<String, AllocError> {
     if bytes.is_empty() {
         return String::from_str(rt.alloc(), "-");
@@ -65,7 +66,7 @@ fn call<P>(rt: &HostRuntime, call: &Call<'_, P>, profile: &str) -> io::Result<()
     }
 }
 
-// Number, place and detail, and the words.
+/// Number, place and detail, and the words.
 pub fn refused(rt: &HostRuntime, refusal: Refusal) -> io::Result<()> {
     let told = refusal.told();
     println!(rt; "    refused {told} {refusal}")
@@ -80,7 +81,7 @@ fn answer(rt: &HostRuntime, reply: Reply) -> io::Result<()> {
     }
 }
 
-// A call, and its answer on the next line. A close is under the profile that is named.
+/// A call, and its answer on the next line. A close is under the profile that is named.
 pub fn answered<P>(
     rt: &HostRuntime,
     made: &Call<'_, P>,
@@ -91,6 +92,7 @@ pub fn answered<P>(
     answer(rt, reply)
 }
 
+/// How many bytes something has, and these.
 pub fn bytes(rt: &HostRuntime, what: &str, bytes: &[u8]) -> io::Result<()> {
     let length = bytes.len();
     let spelled = spelled(rt, bytes)?;
@@ -98,7 +100,7 @@ pub fn bytes(rt: &HostRuntime, what: &str, bytes: &[u8]) -> io::Result<()> {
     println!(rt; "    {spelled}")
 }
 
-// What read answers: three numbers and the rows, or the refusal.
+/// What read answers: three numbers and the rows, or the refusal.
 pub fn reading(rt: &HostRuntime, read: Result<Walked, Refusal>, rows: &[Row]) -> io::Result<()> {
     let walked = match read {
         Ok(walked) => walked,
@@ -112,14 +114,14 @@ pub fn reading(rt: &HostRuntime, read: Result<Walked, Refusal>, rows: &[Row]) ->
     Ok(())
 }
 
-// What redraft answers: the length of the message, and whether its bytes are those that were read.
+/// What redraft answers: the length of the message, and whether its bytes are those that were read.
 pub fn archived(
     rt: &HostRuntime,
     again: Result<usize, Refusal>,
     message: &[u8],
     archive: &[u8],
 ) -> io::Result<()> {
-    println!(rt; "It is drafted again for the archive.")?;
+    println!(rt; "The archive drafts it again.")?;
     let length = match again {
         Ok(length) => length,
         Err(refusal) => return refused(rt, refusal),

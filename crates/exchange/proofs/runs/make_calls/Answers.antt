@@ -2,8 +2,8 @@ use Rattle.std.proofs.Common.{length, sym, refl, ap, ◌∙◌, subst, arith}
 use Rattle.plain.specs.Drafts.{image}
 use Rattle.plain.specs.Steps.{called}
 use Rattle.drafter.specs.States.{view_in}
-use Rattle.exchange.specs.Runs.{steps_of, Runs}
-use Rattle.exchange.proofs.Running.{reached_first, answered_first, reached_next, answered_next, reached_runs, reached_widths, begun_again, step_at, steps_long}
+use Rattle.exchange.specs.Runs.{steps_of, Runs, all_made}
+use Rattle.exchange.proofs.Running.{reached_first, answered_first, reached_next, answered_next, reached_runs, begun_again, step_at, steps_long}
 use Rattle.exchange.proofs.runs.make_calls.Goals as goal
 
 pub loop-i-init : goal.loop-i-init
@@ -40,10 +40,8 @@ returns g c =
     let n = steps_long tables calls in
     let start = c.begin.result.bytes in
     let run = reached_runs start c.args.buffer.now (steps_of tables calls) c.loop-i.i d.plain d.bytes c.loop-i.invariant.0 (omega arith) c.begin.ensures.buffer
-    c.args.replies.now c.loop-i.replies c.loop-i.invariant.1 (omega arith) (omega arith) _ (ap length c.bytes-length.ensures) in
+    c.args.replies.now c.loop-i.replies c.loop-i.invariant.1 (omega arith) (omega arith) (length calls) _ (sym n) (ap length c.bytes-length.ensures) in
     record {
-      runs = subst (λ x. Runs (steps_of tables calls) c.args.buffer.now c.args.replies.now x c.loop-i.replies (length c.bytes-length.result.now)) (sym c.end.ensures.buffer) run;
-      widths = reached_widths start c.args.buffer.now (steps_of tables calls) c.loop-i.i d.plain d.bytes c.loop-i.invariant.0 (omega arith) c.begin.ensures.buffer
-          c.args.replies.now c.loop-i.replies c.loop-i.invariant.1 (omega arith) (omega arith);
+      runs = subst (λ x. Runs (steps_of tables calls) c.args.buffer.now x c.args.replies.now c.loop-i.replies (all_made calls (length c.bytes-length.result.now))) (sym c.end.ensures.buffer) run;
       lent = c.end.ensures.lent ∙ c.loop-i.invariant.2 ∙ c.begin.ensures.lent;
     }
