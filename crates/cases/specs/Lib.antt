@@ -1,1 +1,4 @@
+pub mod Outcome
+pub mod Case
+pub mod Samples
 pub mod Cases

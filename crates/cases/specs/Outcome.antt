@@ -1,0 +1,35 @@
+-- What a message or a call comes to.
+use Rattle.std.specs.Prelude.{ℕ, List, Ok, Err}
+use Rattle.wire.specs.declared.row.Row.{Row}
+use Rattle.wire.specs.declared.row.Walked.{Walked}
+use Rattle.wire.specs.declared.refusal.Refusal.{Refusal}
+use Rattle.wire.specs.Refusals.{told}
+use Rattle.wire.specs.Messages.{Message}
+use Rattle.wire.specs.Rows.{rows, walked_of}
+use Rattle.wire.specs.Answers.{Answer}
+use Rattle.plain.specs.declared.calls.Reply.{Reply}
+use Rattle.plain.specs.declared.calls.Reply.TheVariants as reply
+
+-- of a message: its rows and numbers; of a call: its answer; of both: a refusal's three numbers
+pub data Outcome : Type 0 where
+  accepted : List Row → Walked → Outcome
+  done : Outcome
+  delivered : ℕ → Outcome
+  released : ℕ → Outcome
+  misplaced : Outcome
+  refused : ℕ → ℕ → ℕ → Outcome
+
+-- by number, place and detail
+abbrev refusal : Refusal → Outcome
+refusal f = refused (told f).number (told f).place (told f).detail
+
+abbrev pub of_message : Answer Message → Outcome
+of_message (Ok m) = accepted (rows m) (walked_of m)
+of_message (Err f) = refusal f
+
+abbrev pub of_call : Reply → Outcome
+of_call reply.Done = done
+of_call (reply.Delivered n) = delivered n
+of_call (reply.Released n) = released n
+of_call reply.Misplaced = misplaced
+of_call (reply.Refused f) = refusal f
