@@ -11,6 +11,7 @@ use Rattle.wire.specs.Kinds.{code_of}
 use Rattle.wire.specs.Messages.{Payload, Message, encode, pieces}
 use Rattle.wire.specs.Lawful.{Lawful}
 use Rattle.wire.specs.Rows.{slot, size, rows_from, rows, header_length, MarksOff}
+use Rattle.wire.specs.Answers.{reported}
 use Rattle.wire.proofs.Answers.{check_ok, and_then_ok, same_ok}
 use Rattle.wire.proofs.Tiling.{Drawn, pieces_drawn, marked_off}
 use Rattle.profile.specs.Tables.{Tables}
@@ -153,6 +154,7 @@ module _ (P : Tables) where
 
 pub admits_exactly : (P : Tables) (bytes : List ℕ) (table : List Row) (answer : Passed) → answer ≡ admitting P bytes table → AdmitsExactly P bytes table answer
 admits_exactly P bytes table answer says = record {
+  told = ap reported says;
   passes = λ m l e r a. says ∙ ap₂ (admitting P) (sym e) (sym r) ∙ admitted_passes P m l a;
   only = λ m l e r a. admits_passed P m l tt (ap₂ (admitting P) e r ∙ sym says ∙ a);
 }

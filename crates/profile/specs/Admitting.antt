@@ -7,7 +7,7 @@ use Rattle.wire.specs.Kinds.{kind_of}
 use Rattle.wire.specs.Messages.{Message, encode}
 use Rattle.wire.specs.Lawful.{Lawful}
 use Rattle.wire.specs.Rows.{rows}
-use Rattle.wire.specs.Answers.{Answer, check, and_then}
+use Rattle.wire.specs.Answers.{Answer, check, and_then, reported}
 use Rattle.profile.specs.Tables.{Tables}
 use Rattle.profile.specs.Fields.{Field, field, Place, field_places, value_in}
 use Rattle.profile.specs.Admits.{slots, count, Admits}
@@ -67,7 +67,12 @@ admitting T bs rows =
     and_then (fitting T bs 0 [] rows) (λ _.
     sufficing T (length bs) rows slots))
 
--- of a lawful message's encoding and rows, it passes exactly those that the profile admits
-pub record AdmitsExactly (T : Tables) (bytes : List ℕ) (table : List Row) (answer : Passed) : Type 0 where
-  pub passes : (m : Message) → Lawful m → encode m ≡ bytes → rows m ≡ table → Admits T m → answer ≡ Ok tt
-  pub only : (m : Message) → Lawful m → encode m ≡ bytes → rows m ≡ table → answer ≡ Ok tt → Admits T m
+-- what is answered of bytes and rows, as it is told: a refusal by its number, place and detail. Of
+-- a lawful message's encoding and rows exactly those pass that the profile admits
+pub record AdmitsExactly (T : Tables) (bytes : List ℕ) (table : List Row) (answer : Passed)
+    : Type 0 where
+  pub told : reported answer ≡ reported (admitting T bytes table)
+  pub passes : (m : Message) → Lawful m → encode m ≡ bytes → rows m ≡ table
+      → Admits T m → answer ≡ Ok tt
+  pub only : (m : Message) → Lawful m → encode m ≡ bytes → rows m ≡ table
+      → answer ≡ Ok tt → Admits T m

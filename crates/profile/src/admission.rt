@@ -1,7 +1,6 @@
 // What a profile says of a message and its rows.
 ghost use Rattle.std.specs.Prelude.{◌≡◌, ◌<◌, [], ◌∷◌, length, slice_index, IfOk};
 ghost use Rattle.wire.specs.Numbered.{field_number};
-ghost use Rattle.wire.specs.Answers.{reported};
 ghost use Rattle.profile.specs.Fields.{field};
 ghost use Rattle.profile.specs.Admits.{slots};
 ghost use Rattle.profile.specs.Counts.{Counting};
@@ -132,12 +131,9 @@ impl<P: Profile> Admission<'_, P> {
 }
 
 // Whether a profile admits a message, by its bytes and the rows that mark off its payloads.
-#[tactic(auto, using(crate::proofs::Admitted::admits_exactly))]
 pub fn admit<P: Profile>(profile: &P, message: &[u8], rows: &[Row]) -> Result<(), Refusal>
     ensures answer { result ≡ admitting (P.tables profile.now) message.now rows.now }
-    // As it is told: a refusal by its number, place and detail.
-    ensures told { reported result ≡ reported (admitting (P.tables profile.now) message.now rows.now) }
-    // In the words of messages.
+    // As it is told, and in the words of messages.
     ensures exactly { AdmitsExactly (P.tables profile.now) message.now rows.now result }
 {
     let admission = Admission {
