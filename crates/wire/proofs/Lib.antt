@@ -5,6 +5,7 @@ pub mod Extents
 pub mod Layouts
 pub mod Sessions
 pub mod Codes
+pub mod Named
 pub mod Chains
 pub mod Messages
 pub mod Tiling

@@ -1,10 +1,15 @@
 // Refusals in words, for the people who read what programs print.
+ghost use Rattle.std.specs.Prelude.{◌≡◌, Some};
+ghost use Rattle.wire.specs.Texts.{refusal_words, slot_named, field_named, slot_text, field_text, place_text, detail_text, refusal_text};
+
 use crate::field::Field;
 use crate::refusal::Refusal;
 use crate::slot::Slot;
 use std::fmt;
 
-fn words(refusal: &Refusal) -> &'static str {
+fn words(refusal: &Refusal) -> &'static str
+    ensures { result.now ≡ refusal_words refusal.now }
+{
     match refusal {
         Refusal::FewRows => "fewer than 24 rows were lent",
         Refusal::TooLong => "the message is longer than 8192 bytes",
@@ -41,44 +46,92 @@ fn words(refusal: &Refusal) -> &'static str {
     }
 }
 
-// What a payload in a slot is. A number that no slot has is told as that of any other payload.
-fn write_slot<W: fmt::Write>(f: &mut fmt::Formatter<W>, slot: u8) -> fmt::Result {
-    let slot = Slot::try_from(slot).unwrap_or(Slot::Other);
-    write!(f, ": {slot}")
+// A number that no slot has is told as that of any other payload.
+#[tactic(auto, using(crate::proofs::Named::slot_found))]
+fn slot_or_other(number: u8) -> Slot
+    ensures { result ≡ slot_named number }
+{
+    Slot::try_from(number).unwrap_or(Slot::Other)
 }
 
-fn write_field<W: fmt::Write>(f: &mut fmt::Formatter<W>, field: u8) -> fmt::Result {
-    match Field::try_from(field) {
-        Ok(field) => write!(f, ": {field}"),
-        Err(_) => f.write_str(": an unknown field"),
+// What a payload in a slot is.
+#[derive(Clone, Copy)]
+struct InSlot(u8);
+
+impl fmt::Display for InSlot {
+    ghost output = { λ slot. Some (slot_text slot.0) };
+
+    fn fmt<W: fmt::Write>(&self, f: &mut fmt::Formatter<W>) -> fmt::Result {
+        write!(f, ": {}", slot_or_other(self.0))
+    }
+}
+
+// The field that a number stands for, if there is one.
+#[tactic(auto, using(crate::proofs::Named::field_found))]
+fn known_field(number: u8) -> Option<Field>
+    ensures { result ≡ field_named number }
+{
+    Field::try_from(number).ok()
+}
+
+// Which field it is.
+#[derive(Clone, Copy)]
+struct InField(u8);
+
+impl fmt::Display for InField {
+    ghost output = { λ field. Some (field_text field.0) };
+
+    fn fmt<W: fmt::Write>(&self, f: &mut fmt::Formatter<W>) -> fmt::Result {
+        match known_field(self.0) {
+            Some(field) => write!(f, ": {field}"),
+            None => f.write_str(": an unknown field"),
+        }
     }
 }
 
 // A place that is 0 is not told: it is the first byte, or none.
-fn write_place<W: fmt::Write>(f: &mut fmt::Formatter<W>, place: usize) -> fmt::Result {
-    if place == 0 {
-        return Ok(());
+#[derive(Clone, Copy)]
+struct AtByte(usize);
+
+impl fmt::Display for AtByte {
+    ghost output = { λ place. Some (place_text place.0) };
+
+    fn fmt<W: fmt::Write>(&self, f: &mut fmt::Formatter<W>) -> fmt::Result {
+        if self.0 == 0 {
+            return Ok(());
+        }
+        write!(f, ", byte {}", self.0)
     }
-    write!(f, ", byte {place}")
+}
+
+// What is told behind the sentence.
+#[derive(Clone, Copy)]
+struct Detail(Refusal);
+
+impl fmt::Display for Detail {
+    ghost output = { λ detail. Some (detail_text detail.0) };
+
+    fn fmt<W: fmt::Write>(&self, f: &mut fmt::Formatter<W>) -> fmt::Result {
+        match self.0 {
+            Refusal::FieldNotTaken { byte, field } => {
+                write!(f, "{}{}", InField(field), AtByte(byte))
+            }
+            Refusal::RankFalls { start, slot } | Refusal::AboveMost { start, slot } => {
+                write!(f, "{}{}", InSlot(slot), AtByte(start))
+            }
+            Refusal::BelowLeast { slot, .. } => write!(f, "{}", InSlot(slot)),
+            Refusal::TooLong | Refusal::TooShort(_) => Ok(()),
+            refusal => write!(f, "{}", AtByte(refusal.told().place)),
+        }
+    }
 }
 
 impl std::error::Error for Refusal {}
 
 impl fmt::Display for Refusal {
+    ghost output = { λ refusal. Some (refusal_text refusal) };
+
     fn fmt<W: fmt::Write>(&self, f: &mut fmt::Formatter<W>) -> fmt::Result {
-        f.write_str(words(self))?;
-        match self {
-            Refusal::FieldNotTaken { byte, field } => {
-                write_field(f, *field)?;
-                write_place(f, *byte)
-            }
-            Refusal::RankFalls { start, slot } | Refusal::AboveMost { start, slot } => {
-                write_slot(f, *slot)?;
-                write_place(f, *start)
-            }
-            Refusal::BelowLeast { slot, .. } => write_slot(f, *slot),
-            Refusal::TooLong | Refusal::TooShort(_) => Ok(()),
-            _ => write_place(f, self.told().place),
-        }
+        write!(f, "{}{}", words(self), Detail(*self))
     }
 }
