@@ -1,12 +1,12 @@
 /* MIKEY-SAKKE I_MESSAGEs for C: the calls of libcapi.a, which `rt lib` makes in crates/capi.
  *
  * Every call returns 0, or the number of what is wrong: a refusal, 1 to 31, or a fault in what was passed, 100 or more. Then `place`
- * and `detail` say more, and nothing else is written (but by mikey_draft). At 0 those two stay as they were.
+ * and `detail` say more, and nothing else is written. At 0 those two stay as they were.
  *
  * What the caller owes at every call, since no call can test it:
  * - No pointer is null, not even one with a length of 0.
  * - A pointer and its length stand for so many bytes, which nobody else writes during the call.
- * - What a call writes (rows, buffer, scratch, answers, each number) overlaps nothing else that it is passed.
+ * - What a call writes (rows, buffer, each number) overlaps nothing else that it is passed.
  * Sizes are tested by the call itself, so that no other argument can make it go wrong. No call uses a heap, keeps a pointer, or
  * waits; calls on different memory may run in different threads at once. */
 #ifndef MIKEY_H
@@ -47,7 +47,7 @@ enum mikey_code {
     /* A message under a key and a trust list. */
     MIKEY_NOT_PASSED = 18, /* the tag is not right, or its signer is not trusted; where the signature starts */
 
-    /* A draft. */
+    /* A draft. Of these the calls here tell 23 alone. */
     MIKEY_NO_HEADER = 19,        /* the draft has no header yet */
     MIKEY_NO_POSITION = 20,      /* the draft has no such position */
     MIKEY_MAP_INFO_LEFT = 21,    /* map info is left over behind its sessions */
@@ -69,14 +69,7 @@ enum mikey_code {
 
     /* Faults in what is passed, which are no refusals of the library. */
     MIKEY_NO_PROFILE = 100, /* no fixed profile has this number */
-    MIKEY_TRUST_CUT = 101,  /* an entry of the trust list runs past its end; the place is the byte where it begins */
-
-    /* A script. The place is the number of a line, the first being 1. */
-    MIKEY_SCRIPT_TEXT = 102,    /* the script is no UTF-8; place 0 */
-    MIKEY_NO_CALL = 103,        /* a line is no call */
-    MIKEY_BUFFER_SHORT = 104,   /* a begin asks for more bytes than were lent */
-    MIKEY_SCRATCH_SHORT = 105,  /* the bytes of a line do not fit in the memory lent for them */
-    MIKEY_ANSWERS_SHORT = 106   /* there is no room for the answer of a line; its call is not made */
+    MIKEY_TRUST_CUT = 101   /* an entry of the trust list runs past its end; the place is the byte where it begins */
 };
 
 /* The fixed profiles. */
@@ -158,69 +151,6 @@ uint32_t mikey_redraft_fixed(const uint8_t *message, size_t message_length, uint
 uint32_t mikey_redraft_sheet(const uint8_t *message, size_t message_length, const uint8_t *sheet, size_t sheet_length,
                              uint64_t key, const uint8_t *trusted, size_t trusted_length, uint8_t *buffer,
                              size_t buffer_length, uint32_t *length, uint32_t *place, uint32_t *detail);
-
-/* Answers of a script. Each is eight bytes: its kind, the number and the detail of a refusal or 0, a 0, and a value in four bytes with the
- * highest first. */
-enum mikey_answer {
-    MIKEY_DONE = 0,      /* the call was made */
-    MIKEY_DELIVERED = 1, /* a sign was made; the value is the message's length */
-    MIKEY_RELEASED = 2,  /* a release was made; the value is the length last delivered */
-    MIKEY_REFUSED = 3,   /* the call was refused; the value is the refusal's place */
-    MIKEY_MISPLACED = 4  /* the draft's state does not take the call */
-};
-
-enum { MIKEY_ANSWER_BYTES = 8 };
-
-/* The kind of the i-th answer. */
-static inline uint8_t mikey_answer_kind(const uint8_t *answers, size_t i)
-{
-    return answers[MIKEY_ANSWER_BYTES * i];
-}
-
-/* The number of its refusal. */
-static inline uint8_t mikey_answer_number(const uint8_t *answers, size_t i)
-{
-    return answers[MIKEY_ANSWER_BYTES * i + 1];
-}
-
-/* The detail of its refusal. */
-static inline uint8_t mikey_answer_detail(const uint8_t *answers, size_t i)
-{
-    return answers[MIKEY_ANSWER_BYTES * i + 2];
-}
-
-/* Its value: a length, or the place of its refusal. */
-static inline uint32_t mikey_answer_value(const uint8_t *answers, size_t i)
-{
-    const uint8_t *answer = answers + MIKEY_ANSWER_BYTES * i;
-    return (uint32_t)answer[4] << 24 | (uint32_t)answer[5] << 16 | (uint32_t)answer[6] << 8 | answer[7];
-}
-
-/* Drafts a message by a script of calls, a call a line, as docs/DRAFTS.md has it:
- *
- *     begin LENGTH FILL                    # the draft has the first LENGTH bytes of the buffer, each FILL at first
- *     head BYTE3 CSB NCS MAPTYPE HEX
- *     add POSITION CODE HEX
- *     replace POSITION CODE HEX
- *     remove POSITION
- *     close PROFILE STYPE N                # csk, pck, gmk, or sheet: with any name behind it, which stands for the one sheet passed
- *     sign HEX
- *     withdraw
- *     release
- *
- * The text of a sheet is looked at only at such a close; a script without one may pass any. `scratch` holds the bytes of one line at a
- * time, and what is in it afterwards says nothing.
- *
- * For each call, one that is refused or misplaced too, an answer goes into `answers`, one behind the other; further bytes stay. `written`
- * tells how many there are, and `length` how many bytes the draft holds at the end. Both are written whatever is returned. So are the
- * buffer's bytes, where there was a begin: those of the message, then zeros up to byte LENGTH or 8192, the lesser; those behind are FILL up
- * to LENGTH, and further ones stay.
- *
- * Any code but 0 ends the script at its line; what the lines before it did stands. Codes: 102 to 106, and 29 to 31 for a sheet that a
- * close asks for, with a place in its text. What a call refuses is no code, but an answer. */
-uint32_t mikey_draft(const uint8_t *script, size_t script_length, const uint8_t *sheet, size_t sheet_length, uint8_t *scratch,
-                     size_t scratch_length, uint8_t *buffer, size_t buffer_length, uint8_t *answers, size_t answers_length,
-                     uint32_t *written, uint32_t *length, uint32_t *place, uint32_t *detail);
 
 #ifdef __cplusplus
 }

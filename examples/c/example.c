@@ -86,41 +86,6 @@ static int redraft(const uint8_t *message, size_t length)
     return !same;
 }
 
-/* A header, a random number, and SIGN under a sheet that asks for no more. The first body is cut, and is refused. */
-static const char SCRIPT[] = "begin 64 0\n"
-                             "head 1 0x20000001 0 1 -\n"
-                             "add 0 11 1001020304  # 16 bytes are told, and 4 are there\n"
-                             "add 0 11 10000102030405060708090a0b0c0d0e0f\n"
-                             "close sheet:short 2 4\n"
-                             "sign 0a0b0c0d\n"
-                             "release\n";
-
-static const char SHEET[] = "slot least most rank\n"
-                            "2 1 1 0\n"
-                            "11 1 1 0\n";
-
-/* Drafts by the script, and prints each answer and the bytes. */
-static int draft(void)
-{
-    uint8_t scratch[64], buffer[64], answers[16 * MIKEY_ANSWER_BYTES];
-    uint32_t written = 0, length = 0, place = 0, detail = 0;
-    uint32_t code = mikey_draft((const uint8_t *)SCRIPT, sizeof SCRIPT - 1, (const uint8_t *)SHEET, sizeof SHEET - 1, scratch,
-                                sizeof scratch, buffer, sizeof buffer, answers, sizeof answers, &written, &length, &place,
-                                &detail);
-    for (uint32_t i = 0; i < written; i++)
-        printf("answer %u: %u %u %u %u\n", i, mikey_answer_kind(answers, i), mikey_answer_number(answers, i),
-               mikey_answer_detail(answers, i), mikey_answer_value(answers, i));
-    if (code != MIKEY_OK) {
-        print_refusal("draft", code, place, detail);
-        return 1;
-    }
-    printf("draft: ok %u\n", length);
-    for (uint32_t i = 0; i < length; i++)
-        printf("%02x", buffer[i]);
-    printf("\n");
-    return 0;
-}
-
 int main(int argc, char **argv)
 {
     if (argc != 3) {
@@ -139,7 +104,5 @@ int main(int argc, char **argv)
     /* without its last byte */
     read_group_key("cut", message, length - 1);
     read_group_key("message", message, length);
-    if (redraft(message, length) != 0)
-        return 1;
-    return draft();
+    return redraft(message, length);
 }

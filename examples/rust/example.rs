@@ -15,23 +15,6 @@ const ROWS: usize = 24;
 
 const ROW_BYTES: usize = 6;
 
-const ANSWER_BYTES: usize = 8;
-
-// A header, a random number, and SIGN under a sheet that asks for no more. The first body is cut, and is refused.
-const SCRIPT: &[u8] = b"begin 64 0
-head 1 0x20000001 0 1 -
-add 0 11 1001020304  # 16 bytes are told, and 4 are there
-add 0 11 10000102030405060708090a0b0c0d0e0f
-close sheet:short 2 4
-sign 0a0b0c0d
-release
-";
-
-const SHEET: &[u8] = b"slot least most rank
-2 1 1 0
-11 1 1 0
-";
-
 // As include/mikey.h declares them.
 extern "C" {
     fn mikey_walk(
@@ -71,23 +54,6 @@ extern "C" {
         trusted_length: usize,
         buffer: *mut u8,
         buffer_length: usize,
-        length: *mut u32,
-        place: *mut u32,
-        detail: *mut u32,
-    ) -> u32;
-
-    fn mikey_draft(
-        script: *const u8,
-        script_length: usize,
-        sheet: *const u8,
-        sheet_length: usize,
-        scratch: *mut u8,
-        scratch_length: usize,
-        buffer: *mut u8,
-        buffer_length: usize,
-        answers: *mut u8,
-        answers_length: usize,
-        written: *mut u32,
         length: *mut u32,
         place: *mut u32,
         detail: *mut u32,
@@ -263,56 +229,6 @@ fn redraft<'a>(
     Ok(&buffer[..length as usize])
 }
 
-// The answers of a script's calls, each kind, number, detail and value, and the bytes that the draft then holds.
-struct Drafted {
-    answers: Vec<(u8, u8, u8, u32)>,
-    bytes: Vec<u8>,
-    ended: Result<(), Refusal>,
-}
-
-fn draft(script: &[u8], sheet: &[u8]) -> Drafted {
-    let (mut scratch, mut buffer) = ([0; 64], [0; 64]);
-    let mut answers = [0; 16 * ANSWER_BYTES];
-    let (mut written, mut length, mut place, mut detail) = (0, 0, 0, 0);
-    let code = unsafe {
-        mikey_draft(
-            script.as_ptr(),
-            script.len(),
-            sheet.as_ptr(),
-            sheet.len(),
-            scratch.as_mut_ptr(),
-            scratch.len(),
-            buffer.as_mut_ptr(),
-            buffer.len(),
-            answers.as_mut_ptr(),
-            answers.len(),
-            &mut written,
-            &mut length,
-            &mut place,
-            &mut detail,
-        )
-    };
-    let answers = answers
-        .chunks(ANSWER_BYTES)
-        .take(written as usize)
-        .map(|a| (a[0], a[1], a[2], u32::from_be_bytes([a[4], a[5], a[6], a[7]])))
-        .collect();
-    let ended = if code == 0 {
-        Ok(())
-    } else {
-        Err(Refusal {
-            code,
-            place,
-            detail,
-        })
-    };
-    Drafted {
-        answers,
-        bytes: buffer[..length as usize].to_vec(),
-        ended,
-    }
-}
-
 fn tell(what: &str, told: Result<Told, Refusal>) {
     match told {
         Ok(told) => println!("{what}: ok {} {} {}", told.rows.len(), told.header, told.span),
@@ -344,16 +260,6 @@ fn show(sample: &[u8], message: &[u8]) -> Result<(), Refusal> {
     let again = redraft(message, GMK, KEY, TRUSTED, &mut buffer)?;
     let same = if again == message { "the same" } else { "other" };
     println!("redraft: ok {}, {same} bytes", again.len());
-    let drafted = draft(SCRIPT, SHEET);
-    for (i, (kind, number, detail, value)) in drafted.answers.iter().enumerate() {
-        println!("answer {i}: {kind} {number} {detail} {value}");
-    }
-    drafted.ended?;
-    println!("draft: ok {}", drafted.bytes.len());
-    for byte in &drafted.bytes {
-        print!("{byte:02x}");
-    }
-    println!();
     Ok(())
 }
 
