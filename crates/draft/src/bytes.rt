@@ -1,10 +1,10 @@
 // Bytes in hexadecimal, where `-` stands for no bytes.
-use hex::{FromHexError, decode, encode};
+use hex::encode;
 use std::alloc::AllocError;
 
-// The bytes that are spelled, two digits for each.
-pub fn bytes_of(rt: &HostRuntime, text: &str) -> Result<Vec<u8>, FromHexError> {
-    decode(rt.alloc(), if text == "-" { "" } else { text })
+// Room for whatever bytes a line spells, two digits for each.
+pub fn scratch_for(rt: &HostRuntime, text: &str) -> Result<Vec<u8>, AllocError> {
+    vec![in rt.alloc(); 0; text.len() / 2]
 }
 
 // The bytes in lower-case digits.

@@ -1,6 +1,6 @@
 // Why the call of a line is not made.
 use anyhow::anyhow;
-use hex::FromHexError;
+use script::LineError;
 use std::alloc::AllocError;
 use std::io;
 use thiserror::Error;
@@ -23,11 +23,15 @@ impl Fault {
     }
 }
 
-impl From<FromHexError> for Fault {
-    fn from(error: FromHexError) -> Fault {
-        match error {
-            FromHexError::OutOfMemory => Fault::Io(AllocError.into()),
-            _ => Fault::NoCall,
-        }
+// There is room for the bytes of every line, and wrong digits make it no call.
+impl From<LineError> for Fault {
+    fn from(_error: LineError) -> Fault {
+        Fault::NoCall
+    }
+}
+
+impl From<AllocError> for Fault {
+    fn from(error: AllocError) -> Fault {
+        Fault::Io(error.into())
     }
 }

@@ -1,6 +1,7 @@
 // The profile that a close is given by name.
 use crate::fault::Fault;
 use profile::{Choice, Sheet};
+use script::Line;
 use std::{fs, io};
 use thiserror::Error;
 use wire::Refusal;
@@ -14,7 +15,8 @@ enum NoSheet {
     Unreadable(#[from] io::Error),
 }
 
-// The program verdict reads a sheet by two lines of its own too: it tells a fault in other words, and programs share no crate.
+// The program verdict reads a sheet by two lines of its own too: it tells a fault in other words,
+// and programs share no crate.
 fn sheet(rt: &HostRuntime, file: &str) -> Result<Sheet, NoSheet> {
     let text = fs::read(rt, file)?;
     Ok(Sheet::parse(&text)?)
@@ -32,9 +34,17 @@ fn sheet_of(rt: &HostRuntime, file: &str) -> Result<Choice, Fault> {
 }
 
 // A fixed profile, or the sheet of a file.
-pub fn profile_of(rt: &HostRuntime, name: &str) -> Result<Choice, Fault> {
+fn profile_of(rt: &HostRuntime, name: &str) -> Result<Choice, Fault> {
     if let Ok(fixed) = name.parse() {
         return Ok(Choice::Fixed(fixed));
     }
     sheet_of(rt, name.strip_prefix("sheet:").ok_or(Fault::NoCall)?)
+}
+
+// The profile that a line names, if it is a close.
+pub fn profile_in(rt: &HostRuntime, line: &Line<'_>) -> Result<Option<Choice>, Fault> {
+    match line {
+        Line::Close { profile, .. } => Ok(Some(profile_of(rt, profile)?)),
+        _ => Ok(None),
+    }
 }

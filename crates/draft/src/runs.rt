@@ -1,11 +1,11 @@
 // Runs a script: a draft in a buffer of its own, and the calls on it, a call a line.
-use crate::bytes::{bytes_of, spelled};
+use crate::bytes::{scratch_for, spelled};
 use crate::fault::Fault;
-use crate::profiles::profile_of;
+use crate::profiles::profile_in;
 use drafter::{State, begin};
-use plain::{Call, Head, Reply};
+use plain::{Call, Reply};
 use profile::Choice;
-use script::{Line, Room, parse};
+use script::{Line, ReadLine, Room, parse, read};
 use std::io;
 use std::iter::Zip;
 use std::ops::RangeInclusive;
@@ -44,68 +44,45 @@ fn make<'a>(rt: &HostRuntime, state: State<'a>, call: &Call<'_, Choice>) -> Obey
     told(rt, next, reply)
 }
 
-fn close<'a>(
+// Makes the call that a line is, with its bytes in the scratch and the profile that it names.
+fn make_line<'a>(
     rt: &HostRuntime,
     state: State<'a>,
-    name: &str,
-    sign_type: u8,
-    length: usize,
+    line: &ReadLine<'_>,
+    scratch: &[u8],
 ) -> Obeyed<'a> {
-    let profile = match profile_of(rt, name) {
+    let profile = match profile_in(rt, &line.line) {
         Ok(profile) => profile,
         Err(fault) => return (state, Err(fault)),
     };
-    let call = Call::Close {
-        profile: &profile,
-        sign_type,
-        length,
-    };
-    make(rt, state, &call)
+    match line.call(scratch, profile.as_ref()) {
+        Some(call) => make(rt, state, &call),
+        None => (state, Err(Fault::NoCall)),
+    }
 }
 
-// Makes the call of a line with the bytes that it is given.
-fn make_line<'a>(rt: &HostRuntime, state: State<'a>, line: Line<'_>, bytes: &[u8]) -> Obeyed<'a> {
-    let call = match line {
-        Line::Blank => return (state, Ok(())),
-        Line::Begin(_) => return told(rt, state, Reply::Misplaced),
-        Line::Head { head, .. } => Call::Head(Head {
-            map_info: bytes,
-            ..head
-        }),
-        Line::Add { position, code, .. } => Call::Add {
-            position,
-            code,
-            body: bytes,
-        },
-        Line::Replace { position, code, .. } => Call::Replace {
-            position,
-            code,
-            body: bytes,
-        },
-        Line::Remove { position } => Call::Remove { position },
-        Line::Close {
-            profile,
-            sign_type,
-            length,
-        } => return close(rt, state, profile, sign_type, length),
-        Line::Sign(_) => Call::Sign(bytes),
-        Line::Withdraw => Call::Withdraw,
-        Line::Release => Call::Release,
+// A second begin is misplaced.
+fn obey_in<'a>(
+    rt: &HostRuntime,
+    state: State<'a>,
+    text: &str,
+    scratch: &mut [u8],
+) -> Obeyed<'a> {
+    let line = match read(text, scratch) {
+        Ok(line) => line,
+        Err(error) => return (state, Err(error.into())),
     };
-    make(rt, state, &call)
-}
-
-// What a line asks for, and the bytes that it spells.
-fn asked<'a>(rt: &HostRuntime, text: &'a str) -> Result<(Line<'a>, Vec<u8>), Fault> {
-    let line = parse(text).ok_or(Fault::NoCall)?;
-    let bytes = bytes_of(rt, line.spelled())?;
-    Ok((line, bytes))
+    match line.line {
+        Line::Blank => (state, Ok(())),
+        Line::Begin(_) => told(rt, state, Reply::Misplaced),
+        _ => make_line(rt, state, &line, scratch),
+    }
 }
 
 fn obey<'a>(rt: &HostRuntime, state: State<'a>, text: &str) -> Obeyed<'a> {
-    match asked(rt, text) {
-        Ok((line, bytes)) => make_line(rt, state, line, &bytes),
-        Err(fault) => (state, Err(fault)),
+    match scratch_for(rt, text) {
+        Ok(mut scratch) => obey_in(rt, state, text, &mut scratch),
+        Err(error) => (state, Err(error.into())),
     }
 }
 

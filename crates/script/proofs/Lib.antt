@@ -1,2 +1,3 @@
-mod Digits
-mod Fronts
+pub mod Digits
+pub mod Fronts
+pub mod Spelling

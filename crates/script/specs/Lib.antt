@@ -1,5 +1,6 @@
-pub mod Spelled
 pub mod Decoded
 pub mod Numbers
 pub mod Words
 pub mod Lines
+pub mod Reads
+pub mod Calls

@@ -23,7 +23,7 @@ pub data Request : Type 0 where
 abbrev pub request : Line → Request
 request line.Blank = blank
 request (line.Begin room) = begin room.length room.fill
-request (line.Head h map_info) = head h.byte3 h.csb h.cs h.map_type map_info.now
+request (line.Head byte3 csb cs map_type map_info) = head byte3 csb cs map_type map_info.now
 request (line.Add position code body) = add position code body.now
 request (line.Replace position code body) = replace position code body.now
 request (line.Remove position) = remove position
@@ -48,7 +48,7 @@ texts words = map (λ w. w.now) words
 abbrev pub word : Lent → ℕ → List ℕ
 word words i = (slice_index_or words i (record { ref_ptr = (0, 0); now = [] })).now
 
--- the name of a call, and its arguments behind it
+-- the name of a call, and its arguments after it
 abbrev pub Form : Lent → List ℕ → ℕ → Type 0
 Form words name arguments = (length words ≡ suc arguments) × (word words 0 ≡ name)
 
@@ -66,18 +66,53 @@ with (Some n) next = next n
 -- what the words of a line ask for, a call a line
 pub record Requests (words : Lent) (r : Option Request) : Type 0 where
   pub blank_line : length words ≡ 0 → r ≡ Some blank
-  pub begins : Form words (codes "begin") 2 → r ≡ option_map (λ room. begin room.length room.fill) (room_of (position_in words 1) (byte_in words 2))
-  pub heads : Form words (codes "head") 5 → r ≡ with (byte_in words 1) (λ byte3. with (number_of 32 (word words 2)) (λ csb. with (byte_in words 3) (λ cs. with (byte_in words 4) (λ map_type. Some (head byte3 csb cs map_type (word words 5))))))
-  pub adds : Form words (codes "add") 3 → r ≡ with (position_in words 1) (λ position. with (byte_in words 2) (λ code. Some (add position code (word words 3))))
-  pub replaces : Form words (codes "replace") 3 → r ≡ with (position_in words 1) (λ position. with (byte_in words 2) (λ code. Some (replace position code (word words 3))))
-  pub removes : Form words (codes "remove") 1 → r ≡ with (position_in words 1) (λ position. Some (remove position))
-  pub closes : Form words (codes "close") 3 → r ≡ with (byte_in words 2) (λ type. with (position_in words 3) (λ n. Some (close (word words 1) type n)))
+  pub begins : Form words (codes "begin") 2
+      → r ≡ option_map (λ room. begin room.length room.fill)
+        (room_of (position_in words 1) (byte_in words 2))
+  pub heads : Form words (codes "head") 5
+      → r ≡ with (byte_in words 1) (λ byte3.
+        with (number_of 32 (word words 2)) (λ csb.
+        with (byte_in words 3) (λ cs.
+        with (byte_in words 4) (λ map_type.
+        Some (head byte3 csb cs map_type (word words 5))))))
+  pub adds : Form words (codes "add") 3
+      → r ≡ with (position_in words 1) (λ position.
+        with (byte_in words 2) (λ code.
+        Some (add position code (word words 3))))
+  pub replaces : Form words (codes "replace") 3
+      → r ≡ with (position_in words 1) (λ position.
+        with (byte_in words 2) (λ code.
+        Some (replace position code (word words 3))))
+  pub removes : Form words (codes "remove") 1
+      → r ≡ with (position_in words 1) (λ position. Some (remove position))
+  pub closes : Form words (codes "close") 3
+      → r ≡ with (byte_in words 2) (λ type.
+        with (position_in words 3) (λ n.
+        Some (close (word words 1) type n)))
   pub signs : Form words (codes "sign") 1 → r ≡ Some (sign (word words 1))
   pub withdraws : Form words (codes "withdraw") 0 → r ≡ Some withdraw
   pub releases : Form words (codes "release") 0 → r ≡ Some release
-  pub others : IsSome r → (length words ≡ 0) ⊎ (Form words (codes "begin") 2 ⊎ (Form words (codes "head") 5 ⊎ (Form words (codes "add") 3 ⊎ (Form words (codes "replace") 3
-      ⊎ (Form words (codes "remove") 1 ⊎ (Form words (codes "close") 3 ⊎ (Form words (codes "sign") 1 ⊎ (Form words (codes "withdraw") 0 ⊎ Form words (codes "release") 0))))))))
+  pub others : IsSome r
+      → (length words ≡ 0) ⊎ (Form words (codes "begin") 2 ⊎ (Form words (codes "head") 5
+        ⊎ (Form words (codes "add") 3 ⊎ (Form words (codes "replace") 3
+        ⊎ (Form words (codes "remove") 1 ⊎ (Form words (codes "close") 3
+        ⊎ (Form words (codes "sign") 1 ⊎ (Form words (codes "withdraw") 0
+        ⊎ Form words (codes "release") 0))))))))
 
--- a line is no call where its words are none
-abbrev pub Parses : List ℕ → Option Line → Type 0
-Parses text r = (words : Lent) × Words 7 text (texts words) × Requests words (option_map request r)
+-- what a line asks for; nothing where its words are no call
+abbrev pub Asks : List ℕ → Option Request → Type 0
+Asks text r = (words : Lent) × Words 7 text (texts words) × Requests words r
+
+-- the bytes that a call is given, as they are spelled; a call that is given none is as one that
+-- is given `-`
+abbrev pub spelled_in : Request → List ℕ
+spelled_in blank = codes "-"
+spelled_in (begin room fill) = codes "-"
+spelled_in (head byte3 csb cs map_type map_info) = map_info
+spelled_in (add position code body) = body
+spelled_in (replace position code body) = body
+spelled_in (remove position) = codes "-"
+spelled_in (close profile type n) = codes "-"
+spelled_in (sign signature) = signature
+spelled_in withdraw = codes "-"
+spelled_in release = codes "-"

@@ -19,5 +19,8 @@ Comment word = slice_index word 0 ≡ 35
 -- the first n words, or all that stand before a comment
 abbrev pub Words : ℕ → List ℕ → List (List ℕ) → Type 0
 Words zero text ws = ws ≡ []
-Words (suc n) text [] = NoCharPasses is_not_whitespace text ⊎ ((word : List ℕ) × (rest : List ℕ) × Front text word rest × Comment word)
-Words (suc n) text (w ∷ ws) = (rest : List ℕ) × Front text w rest × (¬ (Comment w)) × Words n rest ws
+Words (suc n) text [] =
+    NoCharPasses is_not_whitespace text
+    ⊎ ((word : List ℕ) × (rest : List ℕ) × Front text word rest × Comment word)
+Words (suc n) text (w ∷ ws) =
+    (rest : List ℕ) × Front text w rest × (¬ (Comment w)) × Words n rest ws

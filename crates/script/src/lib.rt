@@ -1,10 +1,12 @@
-// The lines of a script that drafts a message, without a heap: what each asks for, and its bytes.
+// The lines of a script that drafts a message, without a heap: which call each is, and its bytes.
 #![tactic(auto)]
 
-mod bytes;
+mod call;
+mod decoding;
 mod line;
 mod numbers;
+mod reading;
 mod words;
 
-pub use bytes::{NoBytes, bytes_into};
 pub use line::{Line, Room, parse};
+pub use reading::{LineError, ReadLine, read};

@@ -1,57 +1,69 @@
 // A line of the script.
 ghost use Rattle.std.specs.Prelude.{◌≡◌, option_map};
-ghost use Rattle.script.specs.Lines.{Requests, Parses, request, room_of};
+ghost use Rattle.script.specs.Lines.{Requests, Asks, request, room_of, spelled_in};
 ghost use Rattle.script.specs.Numbers.{number_of};
-ghost use Rattle.script.specs.Spelled.{spelled_of};
 
 use crate::numbers::{byte, identifier, number};
 use crate::words::first_words;
-use plain::Head;
 
-// The buffer that a begin asks for.
+/// The buffer that a begin asks for.
 #[derive(Clone, Copy)]
 pub struct Room {
+    /// How many bytes it has.
     pub length: usize,
+    /// What each of them is at first.
     pub fill: u8,
 }
 
-// What a line asks for. Bytes are still spelled in hexadecimal and a profile is a name, so that this is no `Call`: that one lends both.
+/// What a line asks for. Bytes are still spelled in hexadecimal, and a profile is a name.
 #[derive(Clone, Copy)]
 pub enum Line<'a> {
+    /// Nothing: a line of white space, a comment or both.
     Blank,
+    /// A draft in a buffer.
     Begin(Room),
-    // A header without its map info; and its map info, still spelled.
+    /// The header of the message.
     Head {
-        head: Head<'a>,
+        byte3: u8,
+        csb: u32,
+        cs: u8,
+        map_type: u8,
         map_info: &'a str,
     },
+    /// One more payload, by its position, its code and its body.
     Add {
         position: usize,
         code: u8,
         body: &'a str,
     },
+    /// Another payload at a position.
     Replace {
         position: usize,
         code: u8,
         body: &'a str,
     },
+    /// One payload less.
     Remove {
         position: usize,
     },
+    /// SIGN under a profile, with a signature of this length to come.
     Close {
         profile: &'a str,
         sign_type: u8,
         length: usize,
     },
+    /// The signature.
     Sign(&'a str),
+    /// The draft open again, without SIGN.
     Withdraw,
+    /// The end of the draft.
     Release,
 }
 
 impl<'a> Line<'a> {
     // The bytes that its call is given, as they are spelled; `-` for a call that is given none.
-    pub fn spelled(&self) -> &'a str
-        ensures { result.now ≡ spelled_of self.now }
+    pub(crate) fn spelled(&self) -> &'a str
+        ensures { result.now ≡ spelled_in (request self.now) }
     {
         match *self {
             Line::Head { map_info, .. } => map_info,
@@ -79,13 +91,10 @@ fn line_of<'a>(words: &[&'a str]) -> Option<Line<'a>>
         [] => Line::Blank,
         ["begin", length, fill] => Line::Begin(asked_room(length, fill)?),
         ["head", byte3, csb, cs, map_type, map_info] => Line::Head {
-            head: Head {
-                byte3: byte(byte3)?,
-                csb: identifier(csb)?,
-                cs: byte(cs)?,
-                map_type: byte(map_type)?,
-                map_info: &[],
-            },
+            byte3: byte(byte3)?,
+            csb: identifier(csb)?,
+            cs: byte(cs)?,
+            map_type: byte(map_type)?,
             map_info,
         },
         ["add", position, code, body] => Line::Add {
@@ -113,9 +122,9 @@ fn line_of<'a>(words: &[&'a str]) -> Option<Line<'a>>
     })
 }
 
-// None where it is no call. A comment may stand behind the last word.
+/// What a line asks for. None where it is no call. A comment may stand after the last word.
 pub fn parse(text: &str) -> Option<Line<'_>>
-    ensures { Parses text.now result }
+    ensures { Asks text.now (option_map request result) }
 {
     let (words, count) = first_words(text);
     line_of(&words[..count])

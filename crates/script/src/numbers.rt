@@ -1,11 +1,13 @@
-// Words as numbers: in hexadecimal behind `0x` and else in decimal. No sign.
+// Words as numbers: in hexadecimal after `0x` and else in decimal. No sign.
 ghost use Rattle.std.specs.Prelude.{◌≡◌, ok_or, cond, nat_eq, codes, take, drop, slice_index};
 ghost use Rattle.std.specs.Str.{bytes_eq};
 ghost use Rattle.script.specs.Numbers.{number_of, read_in};
 
 // The digits of a word, and their base.
 fn numeral(word: &str) -> (&str, u32)
-    ensures { cond (bytes_eq (take 2 word.now) (codes "0x")) ((result.0.now ≡ drop 2 word.now) × (result.1 ≡ 16)) ((result.0.now ≡ word.now) × (result.1 ≡ 10)) }
+    ensures { cond (bytes_eq (take 2 word.now) (codes "0x"))
+        ((result.0.now ≡ drop 2 word.now) × (result.1 ≡ 16))
+        ((result.0.now ≡ word.now) × (result.1 ≡ 10)) }
 {
     match word.strip_prefix("0x") {
         Some(digits) => (digits, 16),

@@ -2,7 +2,8 @@
 ghost use Rattle.std.specs.Prelude.{map, take, ◌≤◌};
 ghost use Rattle.script.specs.Words.{Words};
 
-// The first seven words, or all that stand before a comment, and how many they are. No call has more than six.
+// The first seven words, or all that stand before a comment, and how many they are. No call has
+// more than six.
 pub(crate) fn first_words(text: &str) -> ([&str; 7], usize)
     ensures words { Words 7 text.now (map (λ w. w.now) (take result.1 result.0)) }
     ensures fit { result.1 ≤ 7 }

@@ -1,32 +1,5 @@
-// Tests of the lines of a script, and of the bytes that they spell.
-use script::{Line, NoBytes, Room, bytes_into, parse};
-
-#[test]
-fn a_line_is_given_bytes_as_they_are_spelled(rt: HostRuntime) {
-    let spelled = |text| parse(text).map(|line| line.spelled());
-    assert_eq!(rt; spelled("head 1 2 3 0x1 0aB"), Some("0aB"));
-    assert_eq!(rt; spelled("add 0 11 00 # a time"), Some("00"));
-    assert_eq!(rt; spelled("replace 1 14 0G"), Some("0G"));
-    assert_eq!(rt; spelled("sign aa"), Some("aa"));
-    assert_eq!(rt; spelled("close csk 2 4"), Some("-"));
-}
-
-// What a text spells in a room of two bytes: the room, and how many bytes of it those are.
-fn spelled(text: &str) -> Result<([u8; 2], usize), NoBytes> {
-    let mut room = [0xee; 2];
-    let count = bytes_into(text, &mut room)?.len();
-    Ok((room, count))
-}
-
-#[test]
-fn bytes_are_those_of_the_digits(rt: HostRuntime) {
-    assert_eq!(rt; spelled("-"), Ok(([0xee, 0xee], 0)));
-    assert_eq!(rt; spelled("0aB0"), Ok(([0x0a, 0xb0], 2)));
-    assert_eq!(rt; spelled("0a"), Ok(([0x0a, 0xee], 1)));
-    assert_eq!(rt; spelled("0aB0c"), Err(NoBytes::Spelling));
-    assert_eq!(rt; spelled("0g"), Err(NoBytes::Spelling));
-    assert_eq!(rt; spelled("0g0000"), Err(NoBytes::Room));
-}
+// What a line asks for: its numbers, its words and its comment.
+use script::{Line, Room, parse};
 
 #[test]
 fn numbers_have_no_sign_and_fit(rt: HostRuntime) {
