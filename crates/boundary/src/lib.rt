@@ -12,6 +12,6 @@ mod walking;
 pub use fault::Fault;
 pub use reading::{read_fixed, read_sheet};
 pub use redrafting::{redraft_fixed, redraft_sheet};
-pub use rows::{ROW_BYTES, TABLE_BYTES, narrow};
+pub use rows::{ROW_BYTES, TABLE_BYTES};
 pub use times::time_bytes;
 pub use walking::walk_bytes;

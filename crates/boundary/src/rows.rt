@@ -14,7 +14,7 @@ pub const ROW_BYTES: usize = 6;
 pub const TABLE_BYTES: usize = ROW_BYTES * MOST_PAYLOADS;
 
 // A number in 32 bits.
-pub fn narrow(n: usize) -> u32
+pub(crate) fn narrow(n: usize) -> u32
     ensures { result ≡ narrowed n }
 {
     u32::try_from(n).unwrap_or(u32::MAX)
