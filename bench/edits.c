@@ -1,95 +1,98 @@
 /* See edits.h. */
 #include "edits.h"
 
-#include <stdarg.h>
 #include <stdint.h>
 #include <stdio.h>
 #include <string.h>
 
+#include "calls.h"
 #include "measure.h"
-#include "mikey.h"
 #include "plain.h"
 
 /* A draft of eleven payloads, a RAND in the middle and key parameters around it. Each edit makes the RAND longer by a byte, or shorter. */
 enum { PAYLOADS = 11, MIDDLE = 5, NOWHERE = 15, LEAST = 16, EDITS = 64, MOST = LEAST + EDITS };
 
-enum { ANSWERS = 1024, ANSWER_BYTES = 8 };
+enum { RAND = 11, EXT = 21, KEY_PARAMETERS = 7, FILLER = 0x5a };
 
-/* A script in text, as docs/DRAFTS.md has it. */
-struct script {
-    char text[1 << 16];
-    size_t length;
-};
+/* The bodies of all calls, one after the other. */
+static uint8_t bodies[1 << 17];
+static size_t used;
 
-static void say(struct script *s, const char *form, ...)
+static void put(uint8_t byte)
 {
-    va_list values;
-    va_start(values, form);
-    s->length += (size_t)vsnprintf(s->text + s->length, sizeof s->text - s->length, form, values);
-    va_end(values);
+    bodies[used++] = byte;
 }
 
-static void say_filler(struct script *s, size_t n)
+/* A call with the body that was put from a place on. */
+static struct call call_from(enum call_kind kind, size_t position, uint8_t code, size_t start)
 {
-    for (size_t i = 0; i < n; i++)
-        say(s, "5a");
-    say(s, "\n");
+    return (struct call){.kind = (uint8_t)kind, .position = position, .code = code, .start = start, .length = used - start};
 }
 
-/* A position is one hexadecimal digit, so that a call is as long for a position that there is as for one that there is not. */
-static void say_rand(struct script *s, const char *call, int position, size_t bytes)
+static void fill(size_t n)
 {
-    say(s, "%s 0x%x 11 %02zx", call, position, bytes);
-    say_filler(s, bytes);
+    while (n--)
+        put(FILLER);
 }
 
-/* The draft, which counts `room` bytes less than its buffer. */
-static void say_draft(struct script *s, size_t room)
+static void call_rand(struct call_list *list, enum call_kind kind, size_t position, size_t n)
 {
-    s->length = 0;
-    say(s, "begin %d 0\nhead 1 0x00000005 0 1 -\n", LONGEST);
+    size_t start = used;
+    put((uint8_t)n);
+    fill(n);
+    add_call(list, call_from(kind, position, RAND, start));
+}
+
+/* Key parameters that are so many bytes as a payload. */
+static void call_parameters(struct call_list *list, size_t position, size_t size)
+{
+    size_t start = used, n = size - 4;
+    put(KEY_PARAMETERS);
+    put((uint8_t)(n >> 8));
+    put((uint8_t)n);
+    fill(n);
+    add_call(list, call_from(CALL_ADD, position, EXT, start));
+}
+
+/* The draft with a RAND of so many bytes, which counts `room` bytes less than its buffer if those are LEAST. */
+static void call_draft(struct call_list *list, size_t room, size_t n)
+{
+    *list = (struct call_list){.bytes = bodies, .length = sizeof bodies, .profile = 3};
+    add_call(list, (struct call){.kind = CALL_HEAD, .byte3 = 1, .csb = 5, .map_type = 1});
     size_t left = LONGEST - room - 10 - (2 + LEAST);
-    for (int i = 0; i < PAYLOADS; i++) {
+    for (size_t i = 0; i < PAYLOADS; i++) {
         if (i == MIDDLE) {
-            say_rand(s, "add", i, LEAST);
+            call_rand(list, CALL_ADD, i, n);
             continue;
         }
-        size_t size = left / (size_t)(PAYLOADS - i - (i < MIDDLE));
+        size_t size = left / (PAYLOADS - i - (i < MIDDLE));
         left -= size;
-        say(s, "add %d 21 07%04zx", i, size - 4);
-        say_filler(s, size - 4);
+        call_parameters(list, i, size);
     }
 }
 
 /* Edits that make the RAND longer, up to a draft of 8,192 bytes, at a position. */
-static void say_longer(struct script *s, int position)
+static void call_longer(struct call_list *list, size_t position)
 {
     for (size_t n = LEAST + 1; n <= MOST; n++)
-        say_rand(s, "replace", position, n);
+        call_rand(list, CALL_REPLACE, position, n);
 }
 
-static void say_shorter(struct script *s, int position)
+static void call_shorter(struct call_list *list, size_t position)
 {
     for (size_t n = MOST; n-- > LEAST;)
-        say_rand(s, "replace", position, n);
+        call_rand(list, CALL_REPLACE, position, n);
 }
 
-static uint8_t scratch[LONGEST], buffer[LONGEST], answers[ANSWERS * ANSWER_BYTES];
-static uint32_t count, length, place, detail;
-
-static uint32_t obey(const struct script *s)
-{
-    return mikey_draft((const uint8_t *)s->text, s->length, scratch, 0, scratch, sizeof scratch, buffer, sizeof buffer,
-                       answers, sizeof answers, &count, &length, &place, &detail);
-}
+static uint8_t buffer[LONGEST], wanted[LONGEST];
 
 static void draft(void *context, size_t times)
 {
     while (times--)
-        obey(context);
+        make_calls(context, buffer, sizeof buffer);
 }
 
-/* The bytes behind the RAND, moved up or down by one, as often as a script makes edits. */
+/* The bytes behind the RAND, moved up or down by one, as often as a list makes edits. */
 static const size_t FROM = LONGEST / 2;
 
 static size_t behind;
@@ -110,23 +113,18 @@ static void move_down(void *context, size_t times)
             memmove(buffer + FROM - EDITS + i - 1, buffer + FROM - EDITS + i, behind);
 }
 
-/* Whether all calls of a script but the last so many were made, those were refused for their position, and the draft has this length. */
-static int is_obeyed(const struct script *s, size_t calls, size_t refused, size_t held)
+/* Whether a list makes the draft with a RAND of so many bytes. */
+static int is_made(const struct call_list *list, size_t n)
 {
-    if (obey(s) != MIKEY_OK || count != calls || length != held)
-        return 0;
-    for (size_t i = 0; i < calls; i++) {
-        const uint8_t *answer = answers + i * ANSWER_BYTES;
-        int is_made = answer[0] == 0;
-        int is_refused = answer[0] == 3 && answer[1] == MIKEY_NO_POSITION;
-        if (i < calls - refused ? !is_made : !is_refused)
-            return 0;
-    }
-    return 1;
+    static struct call_list plain;
+    call_draft(&plain, EDITS, n);
+    size_t length = make_calls(&plain, wanted, sizeof wanted);
+    return length == LONGEST - MOST + n && make_calls(list, buffer, sizeof buffer) == length &&
+           memcmp(buffer, wanted, sizeof wanted) == 0;
 }
 
-/* What a script takes longer than one whose last edits name no position, beside the moves alone. */
-static void edit_row(const char *name, struct script *made, struct script *refused, void (*move)(void *, size_t))
+/* What a list takes longer than one whose last edits name no position, beside the moves alone. */
+static void edit_row(const char *name, struct call_list *made, struct call_list *refused, void (*move)(void *, size_t))
 {
     struct job all = {draft, made, {0}, 0}, none = {draft, refused, {0}, 0}, moves = {move, 0, {0}, 0}, nothing = {0, 0, {0}, 0};
     struct job *jobs[] = {&all, &none, &moves};
@@ -139,26 +137,22 @@ static void edit_row(const char *name, struct script *made, struct script *refus
 
 int edits(void)
 {
-    static struct script longer, no_longer, shorter, no_shorter;
-    enum { BEFORE = 2 + PAYLOADS };
-    say_draft(&longer, EDITS);
+    static struct call_list longer, no_longer, shorter, no_shorter;
+    call_draft(&longer, EDITS, LEAST);
     no_longer = longer;
-    say_longer(&longer, MIDDLE);
-    say_longer(&no_longer, NOWHERE);
+    call_longer(&longer, MIDDLE);
+    call_longer(&no_longer, NOWHERE);
     shorter = longer;
     no_shorter = longer;
-    say_shorter(&shorter, MIDDLE);
-    say_shorter(&no_shorter, NOWHERE);
-    if (!is_obeyed(&longer, BEFORE + EDITS, 0, LONGEST) ||
-        !is_obeyed(&no_longer, BEFORE + EDITS, EDITS, LONGEST - EDITS) ||
-        !is_obeyed(&shorter, BEFORE + 2 * EDITS, 0, LONGEST - EDITS) ||
-        !is_obeyed(&no_shorter, BEFORE + 2 * EDITS, EDITS, LONGEST)) {
-        printf("A script of edits is not answered as it should be.\n");
+    call_shorter(&shorter, MIDDLE);
+    call_shorter(&no_shorter, NOWHERE);
+    if (!is_made(&longer, MOST) || !is_made(&no_longer, LEAST) || !is_made(&shorter, LEAST) || !is_made(&no_shorter, MOST)) {
+        printf("A list of edits does not make the draft that it should.\n");
         return 0;
     }
     behind = (LONGEST - EDITS - 10 - (2 + LEAST)) / (PAYLOADS - 1) * (PAYLOADS - 1 - MIDDLE);
     printf("\nAn edit in the middle of a full draft of 8,192 bytes: the RAND there is replaced by one that is a byte longer, or shorter, so that the\n"
-           "%zu bytes behind it move. The library's time is what a script takes longer than the same script whose edits name a position that\n"
+           "%zu bytes behind it move. The library's time is what a list of calls takes longer than the same list whose edits name a position that\n"
            "there is not, divided by the number of edits, %d.\n\n"
            "| edit | library, ns | memmove, ns | ratio: of the least; by rounds |\n|---|---|---|---|\n",
            behind, EDITS);
