@@ -1,4 +1,5 @@
--- Answers that may be refusals, and tests in a row: the first that fails is told.
+-- Answers that may be refusals, and tests in a row: the first that fails is told. What refuses is any enum: each crate that refuses
+-- for reasons of its own has one.
 use Rattle.std.specs.Prelude.{Bool, true, false, Ok, Err, Result}
 use Rattle.wire.specs.declared.refusal.Refusal.{Refusal}
 use Rattle.wire.specs.declared.refusal.Told.{Told}
@@ -8,20 +9,23 @@ abbrev pub Answer : Type 0 → Type 0
 Answer A = Result A Refusal
 
 -- go on if the test passes, else refuse
-abbrev pub check : {A : Type 0} → Bool → Refusal → Answer A → Answer A
+abbrev pub check : {A E : Type 0} → Bool → E → Result A E → Result A E
 check true f r = r
 check false f r = Err f
 
 -- go on with what was found, or refuse as it was refused
-abbrev pub and_then : {A B : Type 0} → Answer A → (A → Answer B) → Answer B
+abbrev pub and_then : {A B E : Type 0} → Result A E → (A → Result B E) → Result B E
 and_then (Ok a) next = next a
 and_then (Err f) next = Err f
 
-abbrev pub map_ok : {A B : Type 0} → (A → B) → Answer A → Answer B
+abbrev pub map_ok : {A B E : Type 0} → (A → B) → Result A E → Result B E
 map_ok g (Ok a) = Ok (g a)
 map_ok g (Err f) = Err f
 
+abbrev pub map_err : {A E F : Type 0} → (E → F) → Result A E → Result A F
+map_err g (Ok a) = Ok a
+map_err g (Err f) = Err (g f)
+
 -- an answer as it is told: a refusal by its number, place and detail
 abbrev pub reported : {A : Type 0} → Answer A → Result A Told
-reported (Ok a) = Ok a
-reported (Err f) = Err (told f)
+reported answer = map_err told answer
