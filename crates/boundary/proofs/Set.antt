@@ -3,9 +3,9 @@ use Rattle.std.proofs.Common.{◌≡◌, ℕ, zero, suc, ◌-◌, ◌<◌, ◌�
 use Rattle.std.proofs.lemmas.Bool.{le-leb, lt-leb}
 use Rattle.std.proofs.lemmas.List.{length-drop}
 use Rattle.profile.specs.Tables.{Tables}
-use Rattle.profile.specs.declared.sheet.Sheet.{Sheet}
+use Rattle.profile.specs.declared.sheet.Entry.{Entry}
 use Rattle.profile.specs.Parsing.{parsing}
-use Rattle.profile.specs.Sheets.{entries_of, sheet_tables, lines_tables}
+use Rattle.profile.specs.Sheets.{entries_of, entries_tables, lines_tables}
 use Rattle.wire.specs.declared.refusal.Refusal.{Refusal}
 use Rattle.wire.specs.Answers.{map_ok}
 use Rattle.wire.proofs.Answers.{found}
@@ -16,10 +16,13 @@ use Rattle.boundary.specs.Trusted.{entries, entries_in, trusted_in}
 use Rattle.boundary.specs.Settings.{sheet_in, passes, Setting, setting}
 
 -- the entries that a text was parsed to are those of its lines
-pub sheet_same : (text : List ℕ) (sheet : Sheet) → Ok sheet.entries ≡ map_ok entries_of (parsing text) → Ok (sheet_tables sheet) ≡ sheet_in text
+pub sheet_same :
+    (text : List ℕ) (sheet : List Entry) → Ok sheet ≡ map_ok entries_of (parsing text)
+    → Ok (entries_tables sheet) ≡ sheet_in text
 sheet_same text sheet e =
-    let f = found (parsing text) entries_of sheet.entries e in
-    ap (λ x. Ok (sheet_tables (record { entries = x }))) (sym f.2) ∙ sym (ap (λ r. outcome_of (map_ok lines_tables r)) f.1)
+    let f = found (parsing text) entries_of sheet e in
+    ap (λ x. Ok (entries_tables x)) (sym f.2)
+    ∙ sym (ap (λ r. outcome_of (map_ok lines_tables r)) f.1)
 
 -- no entry is left
 pub none_left : (n end : ℕ) (list : List (List ℕ)) (rest : List ℕ) → length rest ≤ 0 → entries n end list rest ≡ Ok list

@@ -1,7 +1,6 @@
 // What a message is read under, as it crosses: the number of a fixed profile or the text of a sheet, a key, and a trust list in bytes.
 ghost use Rattle.std.specs.Prelude.{◌≡◌};
-ghost use Rattle.profile.specs.Sheets.{sheet_tables};
-ghost use Rattle.verifier.specs.Signers.{signers_of};
+ghost use Rattle.profile.specs.Sheets.{entries_tables};
 ghost use Rattle.boundary.specs.Outcomes.{mapped};
 ghost use Rattle.boundary.specs.Trusted.{Entered};
 ghost use Rattle.boundary.specs.Settings.{fixed_in, sheet_in};
@@ -23,16 +22,17 @@ pub(crate) fn fixed(number: u32) -> Result<Fixed, Fault>
 }
 
 pub(crate) fn sheet(text: &[u8]) -> Result<Sheet, Fault>
-    ensures { mapped sheet_tables result ≡ sheet_in text.now }
+    ensures { mapped entries_tables result ≡ sheet_in text.now }
 {
     Ok(Sheet::parse(text)?)
 }
 
-// Enters the signers of a trust list, which stand one behind the other: each a length byte, and that many bytes; up to one that is refused
-// or cut. The list is the caller's own: handed back, its thousand bytes would be moved.
+// Enters the signers of a trust list, which stand one behind the other: each a length byte, and
+// that many bytes; up to one that is refused or cut. The list is the caller's own: handed back, its
+// thousand bytes would be moved.
 pub(crate) fn enter_all(list: &mut TrustList<KeyTag>, bytes: &[u8]) -> Result<(), Fault>
-    ensures entered { Entered bytes.now (signers_of list.old.signers) result (signers_of list.new.signers) }
-    ensures below { list.new.inner ≡ list.old.inner }
+    ensures entered { Entered bytes.now list.old.signers result list.new.signers }
+    ensures below { list.new.below ≡ list.old.below }
 {
     let mut rest = bytes;
     while let [size, behind @ ..] = rest {

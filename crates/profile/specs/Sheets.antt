@@ -1,9 +1,8 @@
--- A sheet: the text that it is written as, and the table that it stands for.
+-- A sheet: the text that it is written as, and the tables that it stands for.
 use Rattle.std.specs.Prelude.{ℕ, ◌+◌, ◌/◌, ◌%◌, ◌<◌, ◌≤◌, cond, List, [], ◌∷◌, ◌++◌, map, codes, ◌==◌, nat_lt, slice_index_or}
 use Rattle.std.specs.List.{flat_map, range_with_len}
 use Rattle.profile.specs.declared.sheet.Entry.{Entry}
 use Rattle.profile.specs.declared.sheet.Line.{Line}
-use Rattle.profile.specs.declared.sheet.Sheet.{Sheet}
 use Rattle.profile.specs.Tables.{Tables}
 use Rattle.profile.specs.Values.{sheet_values, taken_in}
 
@@ -49,15 +48,15 @@ entry_in (l ∷ ls) slot = cond (l.slot == slot) l.entry (entry_in ls slot)
 abbrev pub entries_of : List Line → List Entry
 entries_of lines = map (entry_in lines) (range_with_len 0 13)
 
--- field answers are those of GMK with every purpose
-abbrev pub sheet_tables : Sheet → Tables
-sheet_tables s = record {
+-- what a sheet with these entries means; field answers are those of GMK with every purpose
+abbrev pub entries_tables : List Entry → Tables
+entries_tables entries = record {
   takes = taken_in sheet_values;
-  least = λ slot. (slice_index_or s.entries slot nothing).bounds.least;
-  most = λ slot. (slice_index_or s.entries slot nothing).bounds.most;
-  rank = λ slot. (slice_index_or s.entries slot nothing).rank;
+  least = λ slot. (slice_index_or entries slot nothing).bounds.least;
+  most = λ slot. (slice_index_or entries slot nothing).bounds.most;
+  rank = λ slot. (slice_index_or entries slot nothing).rank;
 }
 
--- those of the sheet with these lines
+-- what a sheet with these lines means
 abbrev pub lines_tables : List Line → Tables
-lines_tables lines = sheet_tables (record { entries = entries_of lines })
+lines_tables lines = entries_tables (entries_of lines)

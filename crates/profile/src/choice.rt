@@ -5,13 +5,15 @@ use crate::fixed::Fixed;
 use crate::interface::{Bounds, Profile};
 use crate::sheet::Sheet;
 
-#[derive(Clone, Copy)]
+/// A fixed profile or a sheet, as a station chooses when it runs.
+#[derive(Drop)]
 pub enum Choice {
     Fixed(Fixed),
     Sheet(Sheet),
 }
 
-// Each question is a match and a direct call: with a `dyn Profile` one match would be left, and each question an indirect call.
+// Each question is a match and a direct call: with a `dyn Profile` one match would be left, and
+// each question an indirect call.
 impl Profile for Choice {
     ghost tables = { choice_tables };
 

@@ -1,13 +1,14 @@
 // A sheet: a profile that a station writes as text.
 ghost use Rattle.std.specs.Prelude.{◌≡◌, ◌<◌, ◌≤◌, length, replicate};
 ghost use Rattle.wire.specs.Answers.{map_ok};
-ghost use Rattle.profile.specs.Sheets.{sheet_tables, nothing};
+ghost use Rattle.profile.specs.Sheets.{entries_tables, nothing};
 ghost use Rattle.profile.specs.Parsing.{read, number_in, line_in, bounded, line_behind, lines_from, laid, Parses};
 
 use crate::fixed::NEVER;
 use crate::interface::{Bounds, Profile};
 use crate::table::entry_or;
 use crate::values::sheet_values;
+use std::marker::Model;
 use wire::{Refusal, Slot};
 
 // The counts and the rank of a slot.
@@ -22,10 +23,22 @@ const NOTHING: Entry = Entry {
     rank: 0,
 };
 
-// Entries of slots 0 to 12; no line names slot 0.
-#[derive(Clone, Copy)]
+/// A profile that a station writes as text: a line for each slot that may stand, with its least
+/// and most count and its rank; a slot without a line never stands.
+///
+/// Contracts see it as its entries, of slots 0 to 12. No line names slot 0.
+#[derive(Drop)]
 pub struct Sheet {
     entries: [Entry; 13],
+}
+
+impl Model for Sheet {
+    ghost use Rattle.std.specs.Prelude.{List};
+    ghost use Rattle.profile.specs.declared.sheet.Entry.{Entry};
+
+    ghost Value = { List Entry };
+
+    ghost view = { λ s. s.entries };
 }
 
 // The first line.
@@ -90,7 +103,7 @@ fn line_behind(above: u8, at: usize, text: &[u8]) -> Result<(Line, &[u8]), Refus
 // The sheet of some lines, in a text that ends at `end`.
 fn lines(end: usize, text: &[u8]) -> Result<Sheet, Refusal>
     requires { length text.now ≤ end }
-    ensures { map_ok (λ s. s.entries) result ≡ map_ok (laid (replicate 13 nothing)) (lines_from end 0 end text.now) }
+    ensures { result ≡ map_ok (laid (replicate 13 nothing)) (lines_from end 0 end text.now) }
 {
     let mut entries = [NOTHING; 13];
     let mut above = 0;
@@ -105,9 +118,12 @@ fn lines(end: usize, text: &[u8]) -> Result<Sheet, Refusal>
 }
 
 impl Sheet {
-    // Reads the text of a sheet.
+    /// Reads the text of a sheet: the line `slot least most rank`, and then a line of four numbers
+    /// for each slot, in rising order, each line with a line feed.
+    ///
+    /// Refuses by the first line that is wrong: the names (29), its form (30), its bounds (31).
     pub fn parse(text: &[u8]) -> Result<Sheet, Refusal>
-        ensures { Parses text.now (map_ok (λ s. s.entries) result) }
+        ensures { Parses text.now result }
     {
         match text.strip_prefix(&NAMES) {
             Some(rest) => lines(text.len(), rest),
@@ -117,7 +133,7 @@ impl Sheet {
 }
 
 impl Profile for Sheet {
-    ghost tables = { sheet_tables };
+    ghost tables = { entries_tables };
 
     fn takes(&self, field: u8, value: u8) -> bool {
         sheet_values(field).hold(value)

@@ -11,7 +11,6 @@ use itertools::iproduct;
 use profile::{Choice, Sheet};
 use second::Rules;
 use std::io;
-use wire::Refusal;
 
 // What may stand behind the names.
 const TAILS: [&str; 48] = [
@@ -89,7 +88,7 @@ impl Probes {
     fn run(&self, family: &mut Family<'_>, text: &[u8]) -> io::Result<()> {
         let (ours, theirs) = (Sheet::parse(text), second::Sheet::parse(text));
         family.answer(
-            ours.map(|_| 0).map_err(Refusal::told),
+            ours.as_ref().map(|_| 0).map_err(|refusal| refusal.told()),
             theirs.map(|_| 0).map_err(told),
             text,
         )?;

@@ -57,13 +57,13 @@ impl<T: Copy, const N: usize> Few<T, N> {
     }
 
     pub(crate) fn is_full(&self) -> bool
-        ensures { result ≡ nat_le N self.now.count }
+        ensures { result ≡ nat_le N (length (items_of self.now)) }
     {
         self.count >= N
     }
 
     pub(crate) fn push(&mut self, item: T)
-        requires { self.old.count < N }
+        requires { length (items_of self.old) < N }
         ensures { items_of self.new ≡ items_of self.old ++ item ∷ [] }
     {
         self.places[self.count] = item;

@@ -1,21 +1,32 @@
 // The signers on a trust list.
 ghost use Rattle.std.specs.Prelude.{◌≡◌, []};
-ghost use Rattle.verifier.specs.Signers.{signers_of, on_list, Enters};
+ghost use Rattle.verifier.specs.Signers.{on_list, Enters};
 
 use crate::compare::same_identity;
 use crate::few::Few;
+use std::marker::Model;
 use wire::Refusal;
 
 const LONGEST_SIGNER: usize = 128;
 
+// Contracts see the list of signers.
 #[derive(Drop)]
 pub(crate) struct Signers {
     entries: Few<Few<u8, LONGEST_SIGNER>, 8>,
 }
 
+impl Model for Signers {
+    ghost use Rattle.std.specs.Prelude.{ℕ, List, map};
+    ghost use Rattle.verifier.specs.Items.{items_of};
+
+    ghost Value = { List (List ℕ) };
+
+    ghost view = { λ s. map items_of (items_of s.entries) };
+}
+
 impl Signers {
     pub(crate) fn none() -> Signers
-        ensures { signers_of result ≡ [] }
+        ensures { result ≡ [] }
     {
         Signers {
             entries: Few::none(Few::none(0)),
@@ -24,7 +35,7 @@ impl Signers {
 
     // Whether a signer is on the list.
     pub(crate) fn contains(&self, signer: &[u8]) -> bool
-        ensures { result ≡ on_list (signers_of self.now) signer.now }
+        ensures { result ≡ on_list self.now signer.now }
     {
         let entries = self.entries.as_slice();
         entries

@@ -1,6 +1,6 @@
 use Rattle.std.proofs.Common.{◌≤◌, length, get_or, take, drop, ◌∙◌, sym, ap, ap₂, subst, arith, length-drop}
 use Rattle.std.proofs.lemmas.List.{take_rest}
-use Rattle.verifier.specs.Signers.{signers_of, entering, entered}
+use Rattle.verifier.specs.Signers.{entering, entered}
 use Rattle.boundary.specs.Trusted.{entries}
 use Rattle.boundary.proofs.Set.{none_left, cut, one_refused, one_entered}
 use Rattle.boundary.proofs.settings.enter_all.Goals as goal
@@ -16,14 +16,14 @@ returns-in-Err-clause-entered c =
     let v = c.loop-rest.invariant in
     let rest = c.loop-rest.rest.now in
     let front = c.split_at.ensures.front ∙ ap (take (get_or rest 0 0)) (take_rest rest 1) in
-    v.0.2 ∙ one_refused v.0.0 _ _ rest _ v.0.1 (omega (arith, c.in-len1-up.len_at_least, c.if-behind-size.false, length-drop 1 rest)) (c.in-Err.ensures.list.value ∙ ap (entering (signers_of c.loop-rest.list.signers)) front)
+    v.0.2 ∙ one_refused v.0.0 _ _ rest _ v.0.1 (omega (arith, c.in-len1-up.len_at_least, c.if-behind-size.false, length-drop 1 rest)) (c.in-Err.ensures.list.value ∙ ap (entering c.loop-rest.list.signers) front)
 
 pub loop-rest-preserved : goal.loop-rest-preserved
 loop-rest-preserved c =
     let v = c.loop-rest.invariant in
     let bytes = c.args.bytes.now in
     let rest = c.loop-rest.rest.now in
-    let list = signers_of c.loop-rest.list.signers in
+    let list = c.loop-rest.list.signers in
     let front = c.split_at.ensures.front ∙ ap (take (get_or rest 0 0)) (take_rest rest 1) in
     let back = c.split_at.ensures.back ∙ ap (drop (get_or rest 0 0)) (take_rest rest 1) in
     let enters = c.in_default-enter.ensures.list in

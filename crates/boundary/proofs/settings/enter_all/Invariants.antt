@@ -1,12 +1,11 @@
 use Rattle.std.proofs.Common.{◌≡◌, ℕ, ◌≤◌, length}
-use Rattle.verifier.specs.Signers.{signers_of}
 use Rattle.boundary.specs.Trusted.{entries, entries_in}
 use Rattle.boundary.proofs.settings.enter_all.Given as goal
 
 abbrev pub invariant-loop-rest : goal.invariant-loop-rest
 invariant-loop-rest l =
-    ((n : ℕ) × (length l.rest ≤ n) × (entries_in (signers_of l.initial.list.signers) l.bytes ≡ entries n (length l.bytes) (signers_of l.list.signers) l.rest))
-    × (length l.rest ≤ length l.bytes) × (l.list.inner ≡ l.initial.list.inner)
+    ((n : ℕ) × (length l.rest ≤ n) × (entries_in l.initial.list.signers l.bytes ≡ entries n (length l.bytes) l.list.signers l.rest))
+    × (length l.rest ≤ length l.bytes) × (l.list.below ≡ l.initial.list.below)
 
 abbrev pub decreases-loop-rest : goal.decreases-loop-rest
 decreases-loop-rest l = length l.rest

@@ -13,6 +13,7 @@ list_any-map p h (y ∷ ys) = ap (λ b. p (h y) || b) (list_any-map p h ys)
 pub returns : goal.returns
 returns c =
     let same : List ℕ → Bool = λ s. same_identity s c.args.signer.now in
-    let entries = items_of c.args.self.now.entries in
+    let entries = items_of c.self.inside.entries in
     any_from_yields_List (λ e. same (items_of e)) _ _ c.any.result c.any.ensures.ran (YieldsList-from_slice entries cc) (λ x b q k. search (rules, tests))
     ∙ sym (list_any-map same items_of entries)
+    ∙ ap (list_any same) c.self.view_is
