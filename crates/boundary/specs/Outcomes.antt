@@ -2,9 +2,11 @@
 use Rattle.std.specs.Prelude.{ℕ, cond, Ok, Err, Result, nat_le}
 use Rattle.wire.specs.declared.refusal.Told.{Told}
 use Rattle.wire.specs.Answers.{Answer}
-use Rattle.wire.specs.Refusals.{told}
+use Rattle.wire.specs.Refusals.{tells, told}
+use Rattle.profile.specs.SheetRefusals.{sheet_told}
+use Rattle.verifier.specs.TrustRefusals.{trust_told}
 use Rattle.boundary.specs.declared.fault.Fault.{Fault}
-use Rattle.boundary.specs.declared.fault.Fault.TheVariants.{Refused, NoProfile, TrustCut}
+use Rattle.boundary.specs.declared.fault.Fault.TheVariants.{Refused, SheetRefused, SignerRefused, NoProfile, TrustCut}
 
 abbrev pub Outcome : Type 0 → Type 0
 Outcome A = Result A Fault
@@ -23,12 +25,11 @@ abbrev pub mapped : {A B : Type 0} → (A → B) → Outcome A → Outcome B
 mapped g (Ok a) = Ok (g a)
 mapped g (Err f) = Err f
 
-abbrev tells : ℕ → ℕ → ℕ → Told
-tells n p d = record { number = n; place = p; detail = d }
-
--- a refusal has the numbers of the one table; a fault of the boundary has a number of 100 or more
+-- a refusal has the number that its enum gives it; a fault of the boundary has a number of 100 or more
 abbrev pub fault_told : Fault → Told
 fault_told (Refused f) = told f
+fault_told (SheetRefused f) = sheet_told f
+fault_told (SignerRefused f) = trust_told f
 fault_told NoProfile = tells 100 0 0
 fault_told (TrustCut place) = tells 101 place 0
 

@@ -1,6 +1,6 @@
 -- What a message is read under: a profile, and a key tag under a trust list.
 use Rattle.std.specs.Prelude.{ℕ, Bool, cond, List, Ok, Err, ◌==◌}
-use Rattle.wire.specs.Answers.{map_ok}
+use Rattle.wire.specs.Answers.{map_ok, map_err}
 use Rattle.profile.specs.Tables.{Tables}
 use Rattle.profile.specs.declared.fixed.Fixed.{Fixed}
 use Rattle.profile.specs.declared.fixed.Fixed.TheVariants.{Csk, Pck, Gmk}
@@ -9,8 +9,8 @@ use Rattle.profile.specs.Parsing.{parsing}
 use Rattle.verifier.specs.Signed.{Signed}
 use Rattle.verifier.specs.Tags.{tag_passes}
 use Rattle.verifier.specs.TrustLists.{trust_passes}
-use Rattle.boundary.specs.declared.fault.Fault.TheVariants.{NoProfile}
-use Rattle.boundary.specs.Outcomes.{Outcome, outcome_of, go_on}
+use Rattle.boundary.specs.declared.fault.Fault.TheVariants.{SheetRefused, NoProfile}
+use Rattle.boundary.specs.Outcomes.{Outcome, go_on}
 use Rattle.boundary.specs.Trusted.{trusted_in}
 
 -- a fixed profile by its number
@@ -19,7 +19,7 @@ fixed_in n = cond (n == 1) (Ok Csk) (cond (n == 2) (Ok Pck) (cond (n == 3) (Ok G
 
 -- the tables of the sheet that a text writes
 abbrev pub sheet_in : List ℕ → Outcome Tables
-sheet_in text = outcome_of (map_ok lines_tables (parsing text))
+sheet_in text = map_err SheetRefused (map_ok lines_tables (parsing text))
 
 -- whether a tag of this key is right, and the signer on the list
 abbrev pub passes : ℕ → List (List ℕ) → Signed → Bool

@@ -2,34 +2,37 @@
 ghost use Rattle.std.specs.Prelude.{◌≡◌};
 ghost use Rattle.boundary.specs.Outcomes.{fault_told};
 
+use profile::SheetRefusal;
+use verifier::TrustRefusal;
 use wire::{Refusal, Told};
 
-// A refusal of the library, or a fault in what crosses: the number of a profile, and the bytes of a trust list.
+/// Why a call across the boundary comes to nothing: a refusal of the library, or a fault in what
+/// crosses, with a number of 100 or more.
 #[derive(Clone, Copy, PartialEq, Eq, Debug)]
 pub enum Fault {
+    /// A message or a draft is refused.
     Refused(Refusal),
+    /// A text is no sheet.
+    SheetRefused(SheetRefusal),
+    /// A signer is not entered into the trust list.
+    SignerRefused(TrustRefusal),
+    /// 100: no fixed profile has the number.
     NoProfile,
+    /// 101: an entry of a trust list runs past its end, by the byte where the entry starts.
     TrustCut(usize),
 }
 
-const fn tells(number: u8, place: usize) -> Told
-    ensures { result ≡ record { number = number; place = place; detail = 0 } }
-{
-    Told {
-        number,
-        place,
-        detail: 0,
-    }
-}
-
 impl Fault {
+    /// The fault's number, place and detail. A refusal has its own.
     pub fn told(self) -> Told
         ensures { result ≡ fault_told self }
     {
         match self {
             Fault::Refused(refusal) => refusal.told(),
-            Fault::NoProfile => tells(100, 0),
-            Fault::TrustCut(place) => tells(101, place),
+            Fault::SheetRefused(refusal) => refusal.told(),
+            Fault::SignerRefused(refusal) => refusal.told(),
+            Fault::NoProfile => Told::new(100, 0, 0),
+            Fault::TrustCut(place) => Told::new(101, place, 0),
         }
     }
 }
@@ -41,5 +44,15 @@ impl From<Refusal> for Fault {
 
     fn from(refusal: Refusal) -> Fault {
         Fault::Refused(refusal)
+    }
+}
+
+impl From<SheetRefusal> for Fault {
+    ghost use Rattle.boundary.specs.declared.fault.Fault.TheVariants.{SheetRefused};
+
+    ghost from_gives = { λ refusal fault. fault ≡ SheetRefused refusal };
+
+    fn from(refusal: SheetRefusal) -> Fault {
+        Fault::SheetRefused(refusal)
     }
 }

@@ -42,7 +42,7 @@ pub(crate) fn enter_all(list: &mut TrustList<KeyTag>, bytes: &[u8]) -> Result<()
         }
         let (signer, others) = behind.split_at(size);
         if let Err(refusal) = list.enter(signer) {
-            return Err(Fault::Refused(refusal));
+            return Err(Fault::SignerRefused(refusal));
         }
         rest = others;
     }

@@ -1,16 +1,15 @@
 // The profile that a close is given by name.
 use crate::fault::Fault;
-use profile::{Choice, Sheet};
+use profile::{Choice, Sheet, SheetRefusal};
 use script::Line;
 use std::{fs, io};
 use thiserror::Error;
-use wire::Refusal;
 
 // Why there is no such sheet.
 #[derive(Debug, Drop, Error)]
 enum NoSheet {
     #[error(transparent)]
-    Refused(#[from] Refusal),
+    Refused(#[from] SheetRefusal),
     #[error(transparent)]
     Unreadable(#[from] io::Error),
 }

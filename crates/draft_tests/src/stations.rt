@@ -1,9 +1,8 @@
 // What the tests draft by: a header without sessions, a payload and a key.
 use drafter::Open;
 use plain::Head;
-use profile::Sheet;
+use profile::{Sheet, SheetRefusal};
 use verifier::KeyTag;
-use wire::Refusal;
 
 pub(crate) const KEY: KeyTag = KeyTag { key: 0 };
 
@@ -26,7 +25,7 @@ pub(crate) fn set(open: &mut Open<'_>, head: &Head<'_>) -> Result<(), Refusal> {
 }
 
 // One RAND at most, and SIGN.
-pub(crate) fn sheet() -> Result<Sheet, Refusal> {
+pub(crate) fn sheet() -> Result<Sheet, SheetRefusal> {
     Sheet::parse(b"slot least most rank\n2 0 1 0\n11 1 1 1\n")
 }
 

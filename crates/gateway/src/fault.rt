@@ -1,4 +1,5 @@
 // What ends the way of the message.
+use profile::SheetRefusal;
 use std::io;
 use thiserror::Error;
 use wire::Refusal;
@@ -8,6 +9,8 @@ use wire::Refusal;
 pub enum Fault {
     #[error("{0}")]
     Refused(#[from] Refusal),
+    #[error("{0}")]
+    Sheet(#[from] SheetRefusal),
     #[error(transparent)]
     Io(#[from] io::Error),
 }

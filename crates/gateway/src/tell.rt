@@ -3,8 +3,9 @@ use crate::part::front;
 use hex::encode;
 use plain::{Call, Head, Reply};
 use std::alloc::AllocError;
+use std::fmt::Display;
 use std::io;
-use wire::{Refusal, Row, Walked};
+use wire::{Refusal, Row, Told, Walked};
 
 // Bytes in lower-case digits, `-` for none. The program draft has the same: programs share no
 // crate.
@@ -67,8 +68,8 @@ fn call<P>(rt: &HostRuntime, call: &Call<'_, P>, profile: &str) -> io::Result<()
 }
 
 /// Number, place and detail, and the words.
-pub fn refused(rt: &HostRuntime, refusal: Refusal) -> io::Result<()> {
-    let told = refusal.told();
+pub fn refused<R: Copy + Display + Into<Told>>(rt: &HostRuntime, refusal: R) -> io::Result<()> {
+    let told: Told = refusal.into();
     println!(rt; "    refused {told} {refusal}")
 }
 

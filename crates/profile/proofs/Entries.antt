@@ -4,16 +4,16 @@ use Rattle.std.specs.List.{range_with_len}
 use Rattle.std.proofs.lemmas.List.FromFn.{fill_by_all}
 use Rattle.std.proofs.lemmas.List.{get_or-replicate, get_or-set_same, get_or-set_other}
 use Rattle.std.proofs.lemmas.Bool.{cases_Bool, eqb-true, eqb-false}
-use Rattle.wire.specs.Answers.{Answer, map_ok, and_then}
+use Rattle.wire.specs.Answers.{map_ok, and_then}
 use Rattle.profile.specs.declared.sheet.Entry.{Entry}
 use Rattle.profile.specs.declared.sheet.Line.{Line}
 use Rattle.profile.specs.Sheets.{Lines, nothing, entry_in}
-use Rattle.profile.specs.Parsing.{line_behind, lines_from, laid}
+use Rattle.profile.specs.Parsing.{SheetAnswer, line_behind, lines_from, laid}
 use Rattle.profile.proofs.Lines.{next, goes_on, lines_cons, lines_none}
 
 -- more lines than bytes do not come
 next_same : (n k above end at : ℕ) (bs : List ℕ) → ((r : Line × List ℕ) → line_behind above at bs ≡ Ok r → next n end r ≡ next k end r)
-    → (a : Answer (Line × List ℕ)) → line_behind above at bs ≡ a → and_then a (next n end) ≡ and_then a (next k end)
+    → (a : SheetAnswer (Line × List ℕ)) → line_behind above at bs ≡ a → and_then a (next n end) ≡ and_then a (next k end)
 next_same n k above end at bs same (Ok r) e = same r e
 next_same n k above end at bs same (Err f) e = refl
 
@@ -30,12 +30,12 @@ lines_same (suc n) (suc k) above end (b ∷ bs) h g =
     ap (λ x. and_then x (λ ls. Ok (r.0 ∷ ls))) (lines_same n k r.0.slot end r.1 (omega arith) (omega arith)) in
     lines_cons n above end text (omega arith) ∙ next_same n k above end at text same (line_behind above at text) refl ∙ sym (lines_cons k above end text (omega arith))
 
-entered : (entries : List Entry) (l : Line) (a : Answer (List Line)) → map_ok (laid entries) (and_then a (λ ls. Ok (l ∷ ls))) ≡ map_ok (laid (set entries l.slot l.entry)) a
+entered : (entries : List Entry) (l : Line) (a : SheetAnswer (List Line)) → map_ok (laid entries) (and_then a (λ ls. Ok (l ∷ ls))) ≡ map_ok (laid (set entries l.slot l.entry)) a
 entered entries l (Ok ls) = refl
 entered entries l (Err f) = refl
 
 -- one turn of the loop
-entered_next : (n end : ℕ) (entries : List Entry) (a : Answer (Line × List ℕ))
+entered_next : (n end : ℕ) (entries : List Entry) (a : SheetAnswer (Line × List ℕ))
     → map_ok (laid entries) (and_then a (next n end)) ≡ and_then a (λ r. map_ok (laid (set entries r.0.slot r.0.entry)) (lines_from n r.0.slot end r.1))
 entered_next n end entries (Ok r) = entered entries r.0 (lines_from n r.0.slot end r.1)
 entered_next n end entries (Err f) = refl

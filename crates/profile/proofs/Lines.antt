@@ -2,12 +2,12 @@
 use Rattle.std.proofs.Common.{◌≡◌, ℕ, zero, suc, ◌-◌, ◌<◌, ◌≤◌, true, List, [], ◌∷◌, ◌++◌, length, Some, None, Ok, sym, refl, ap, ◌∙◌, subst, append_assoc, arith, length-append}
 use Rattle.std.specs.List.{flat_map}
 use Rattle.std.proofs.lemmas.Bool.Decides.{nat_tests}
-use Rattle.wire.specs.declared.refusal.Refusal.TheVariants.{SheetLine, SheetBounds}
-use Rattle.wire.specs.Answers.{Answer, and_then}
+use Rattle.profile.specs.declared.refusal.SheetRefusal.TheVariants.{LineForm, LineBounds}
+use Rattle.wire.specs.Answers.{and_then}
 use Rattle.wire.proofs.Answers.{check_ok, and_then_ok, ok_or_ok, same_ok, never_ok}
 use Rattle.profile.specs.declared.sheet.Line.{Line}
 use Rattle.profile.specs.Sheets.{ended, line_text, Bounded, Lines}
-use Rattle.profile.specs.Parsing.{Read, behind, number_in, line_in, bounded, line_behind, lines_from}
+use Rattle.profile.specs.Parsing.{SheetAnswer, Read, behind, number_in, line_in, bounded, line_behind, lines_from}
 use Rattle.profile.proofs.Numerals.{number_there, number_back, space, feed}
 
 behind_some : {A B : Type 0} (r : Read A) (next : A → List ℕ → Read B) (b : B × List ℕ) → behind r next ≡ Some b → (a : A × List ℕ) × (r ≡ Some a) × (next a.0 a.1 ≡ Some b)
@@ -77,8 +77,8 @@ record Behind (above : ℕ) (bs : List ℕ) (r : Line × List ℕ) : Type 0 wher
 behind_back : (above at : ℕ) (bs : List ℕ) (r : Line × List ℕ) → line_behind above at bs ≡ Ok r → Behind above bs r
 behind_back above at bs r e =
     let l = and_then_ok _ _ r e in
-    let k = check_ok (bounded above l.0.0) (SheetBounds at) (Ok l.0) r l.2 in
-    let i = line_back bs l.0 (ok_or_ok (line_in bs) (SheetLine at) l.0 l.1) in
+    let k = check_ok (bounded above l.0.0) (LineBounds at) (Ok l.0) r l.2 in
+    let i = line_back bs l.0 (ok_or_ok (line_in bs) (LineForm at) l.0 l.1) in
     subst (Behind above bs) (same_ok l.0 r k.1) (record { bounds = bounds_keep above l.0.0 k.0; is = i })
 
 line_some : (l : Line) → 0 < length (line_text l)
@@ -95,7 +95,7 @@ goes_on above at bs r e =
     record { there = b.bounds.there; shorter = rw b.is (omega (arith, length-append (line_text r.0) r.1, line_some r.0)) }
 
 -- the lines behind the one at the front
-abbrev pub next : ℕ → ℕ → Line × List ℕ → Answer (List Line)
+abbrev pub next : ℕ → ℕ → Line × List ℕ → SheetAnswer (List Line)
 next n end r = and_then (lines_from n r.0.slot end r.1) (λ ls. Ok (r.0 ∷ ls))
 
 pub lines_cons : (n above end : ℕ) (bs : List ℕ) → 0 < length bs → lines_from (suc n) above end bs ≡ and_then (line_behind above (end - length bs) bs) (next n end)

@@ -4,13 +4,14 @@ use Rattle.std.proofs.lemmas.List.{take-append-drop}
 use Rattle.std.specs.List.{flat_map}
 use Rattle.std.specs.Str.{bytes_eq}
 use Rattle.std.proofs.lemmas.Slice.Eq.{bytes_eq-Decides}
-use Rattle.wire.specs.declared.refusal.Refusal.TheVariants.{SheetNames}
-use Rattle.wire.specs.Answers.{Answer, map_ok, reported}
+use Rattle.profile.specs.declared.refusal.SheetRefusal.TheVariants.{FirstLine}
+use Rattle.wire.specs.Answers.{map_ok, map_err}
 use Rattle.wire.proofs.Answers.{check_ok, found}
 use Rattle.profile.specs.declared.sheet.Entry.{Entry}
 use Rattle.profile.specs.declared.sheet.Line.{Line}
+use Rattle.profile.specs.SheetRefusals.{sheet_told}
 use Rattle.profile.specs.Sheets.{line_text, names, sheet_text, Lines, nothing, entries_of}
-use Rattle.profile.specs.Parsing.{lines_from, laid, parsing, Parses}
+use Rattle.profile.specs.Parsing.{SheetAnswer, lines_from, laid, parsing, Parses}
 use Rattle.profile.proofs.Lines.{lines_there, lines_back}
 use Rattle.profile.proofs.Entries.{laid_is}
 
@@ -23,20 +24,20 @@ written ls k =
 
 parsed : (text : List ℕ) (ls : List Line) → parsing text ≡ Ok ls → Lines 0 ls × (sheet_text ls ≡ text)
 parsed text ls e =
-    let k = check_ok (bytes_eq (take 21 text) names) SheetNames (lines_from (length text) 0 (length text) (drop 21 text)) ls e in
+    let k = check_ok (bytes_eq (take 21 text) names) FirstLine (lines_from (length text) 0 (length text) (drop 21 text)) ls e in
     let b = lines_back (length text) 0 (length text) (drop 21 text) ls k.1 in
     (b.0, ap₂ ◌++◌ (sym ((bytes_eq-Decides (take 21 text) names).0 k.0)) b.1 ∙ take-append-drop 21 text)
 
-entered : (text : List ℕ) (r : Answer (List Line)) → parsing text ≡ r → map_ok (laid (replicate 13 nothing)) r ≡ map_ok entries_of r
+entered : (text : List ℕ) (r : SheetAnswer (List Line)) → parsing text ≡ r → map_ok (laid (replicate 13 nothing)) r ≡ map_ok entries_of r
 entered text (Ok ls) e = ap Ok (laid_is ls (parsed text ls e).0)
 entered text (Err f) e = refl
 
-pub parses : (text : List ℕ) (answer : Answer (List Entry)) → answer ≡ map_ok (laid (replicate 13 nothing)) (parsing text) → Parses text answer
+pub parses : (text : List ℕ) (answer : SheetAnswer (List Entry)) → answer ≡ map_ok (laid (replicate 13 nothing)) (parsing text) → Parses text answer
 parses text answer e =
     let v : answer ≡ map_ok entries_of (parsing text) = e ∙ entered text (parsing text) refl in
     record {
       value = v;
-      told = ap reported v;
+      told = ap (map_err sheet_told) v;
       read_back = λ ls k is. v ∙ ap (map_ok entries_of) (ap parsing (sym is) ∙ written ls k);
       only =
           λ entries is.

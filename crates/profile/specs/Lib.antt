@@ -6,6 +6,7 @@ pub mod Fields
 pub mod Admits
 pub mod Counts
 pub mod Admitting
+pub mod SheetRefusals
 pub mod Sheets
 pub mod Parsing
 pub mod Choices

@@ -1,13 +1,19 @@
 -- What a text says as a sheet, and the first refusal on the way.
-use Rattle.std.specs.Prelude.{◌≡◌, ℕ, zero, suc, ◌-◌, ◌+◌, ◌*◌, Bool, cond, not, ◌&&◌, List, [], ◌∷◌, length, take, drop, Option, Some, None, Ok, Err, ok_or, option_map, ◌==◌, nat_le, nat_lt, slice_index, slice_set}
+use Rattle.std.specs.Prelude.{◌≡◌, ℕ, zero, suc, ◌-◌, ◌+◌, ◌*◌, Bool, cond, not, ◌&&◌, List, [], ◌∷◌, length, take, drop, Option, Some, None, Ok, Err, ok_or, option_map, Result, ◌==◌, nat_le, nat_lt, slice_index, slice_set}
 use Rattle.std.specs.Borrow.{Bor}
 use Rattle.std.specs.Char.{is_ascii_digit}
 use Rattle.std.specs.Str.{bytes_eq}
-use Rattle.wire.specs.declared.refusal.Refusal.TheVariants.{SheetNames, SheetLine, SheetBounds}
-use Rattle.wire.specs.Answers.{Answer, check, and_then, map_ok, reported}
+use Rattle.wire.specs.Answers.{check, and_then, map_ok, map_err}
 use Rattle.profile.specs.declared.sheet.Entry.{Entry}
 use Rattle.profile.specs.declared.sheet.Line.{Line}
+use Rattle.profile.specs.declared.refusal.SheetRefusal.{SheetRefusal}
+use Rattle.profile.specs.declared.refusal.SheetRefusal.TheVariants.{FirstLine, LineForm, LineBounds}
+use Rattle.profile.specs.SheetRefusals.{sheet_told}
 use Rattle.profile.specs.Sheets.{names, sheet_text, Lines, entries_of}
+
+-- an answer that may be the refusal of a sheet
+abbrev pub SheetAnswer : Type 0 → Type 0
+SheetAnswer A = Result A SheetRefusal
 
 -- what is read at the front of a text, and the text behind it
 abbrev pub Read : Type 0 → Type 0
@@ -43,13 +49,15 @@ abbrev pub bounded : ℕ → Line → Bool
 bounded above l = nat_lt above l.slot && (nat_le l.slot 12 && (nat_le l.entry.bounds.least l.entry.bounds.most && (nat_le l.entry.bounds.most 24 && nat_le l.entry.rank 24)))
 
 -- a line behind one with the slot `above`, and the text behind it; `at` is where the line starts
-abbrev pub line_behind : ℕ → ℕ → List ℕ → Answer (Line × List ℕ)
-line_behind above at bs = and_then (ok_or (line_in bs) (SheetLine at)) (λ r. check (bounded above r.0) (SheetBounds at) (Ok r))
+abbrev pub line_behind : ℕ → ℕ → List ℕ → SheetAnswer (Line × List ℕ)
+line_behind above at bs =
+    and_then (ok_or (line_in bs) (LineForm at)) (λ r.
+    check (bounded above r.0) (LineBounds at) (Ok r))
 
 -- at most n lines, which n bytes are enough for; the text ends at `end`
-unfoldable pub lines_from : ℕ → ℕ → ℕ → List ℕ → Answer (List Line)
+unfoldable pub lines_from : ℕ → ℕ → ℕ → List ℕ → SheetAnswer (List Line)
 lines_from n above end [] = Ok []
-lines_from zero above end (b ∷ bs) = Err (SheetLine (end - length (b ∷ bs)))
+lines_from zero above end (b ∷ bs) = Err (LineForm (end - length (b ∷ bs)))
 lines_from (suc n) above end (b ∷ bs) =
     and_then (line_behind above (end - length (b ∷ bs)) (b ∷ bs)) (λ r.
     and_then (lines_from n r.0.slot end r.1) (λ ls.
@@ -60,13 +68,19 @@ abbrev pub laid : List Entry → List Line → List Entry
 laid entries [] = entries
 laid entries (l ∷ ls) = laid (slice_set entries l.slot l.entry) ls
 
-abbrev pub parsing : List ℕ → Answer (List Line)
-parsing text = check (bytes_eq (take 21 text) names) SheetNames (lines_from (length text) 0 (length text) (drop 21 text))
+abbrev pub parsing : List ℕ → SheetAnswer (List Line)
+parsing text =
+    check (bytes_eq (take 21 text) names) FirstLine
+    (lines_from (length text) 0 (length text) (drop 21 text))
 
 -- exactly the texts of lines in bounds are sheets, and their entries are those of the lines
-pub record Parses (text : List ℕ) (answer : Answer (List Entry)) : Type 0 where
+pub record Parses (text : List ℕ) (answer : SheetAnswer (List Entry)) : Type 0 where
   pub value : answer ≡ map_ok entries_of (parsing text)
   -- as it is told: a refusal by its number, place and detail
-  pub told : reported answer ≡ reported (map_ok entries_of (parsing text))
-  pub read_back : (lines : List Line) → Lines 0 lines → sheet_text lines ≡ text → answer ≡ Ok (entries_of lines)
-  pub only : (entries : List Entry) → answer ≡ Ok entries → (lines : List Line) × Lines 0 lines × (sheet_text lines ≡ text) × (entries ≡ entries_of lines)
+  pub told : map_err sheet_told answer ≡ map_err sheet_told (map_ok entries_of (parsing text))
+  pub read_back :
+      (lines : List Line) → Lines 0 lines → sheet_text lines ≡ text
+      → answer ≡ Ok (entries_of lines)
+  pub only :
+      (entries : List Entry) → answer ≡ Ok entries
+      → (lines : List Line) × Lines 0 lines × (sheet_text lines ≡ text) × (entries ≡ entries_of lines)

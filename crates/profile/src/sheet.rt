@@ -6,10 +6,11 @@ ghost use Rattle.profile.specs.Parsing.{read, number_in, line_in, bounded, line_
 
 use crate::fixed::NEVER;
 use crate::interface::{Bounds, Profile};
+use crate::refusal::SheetRefusal;
 use crate::table::entry_or;
 use crate::values::sheet_values;
 use std::marker::Model;
-use wire::{Refusal, Slot};
+use wire::Slot;
 
 // The counts and the rank of a slot.
 #[derive(Clone, Copy)]
@@ -90,18 +91,18 @@ impl Line {
 }
 
 // A line behind one with the slot `above`, or behind the names, and the text behind it. It starts at `at`.
-fn line_behind(above: u8, at: usize, text: &[u8]) -> Result<(Line, &[u8]), Refusal>
+fn line_behind(above: u8, at: usize, text: &[u8]) -> Result<(Line, &[u8]), SheetRefusal>
     ensures { map_ok (λ p. (p.0, p.1.now)) result ≡ line_behind above at text.now }
 {
-    let (line, rest) = four(text).ok_or(Refusal::SheetLine(at))?;
+    let (line, rest) = four(text).ok_or(SheetRefusal::LineForm(at))?;
     if !line.is_bounded(above) {
-        return Err(Refusal::SheetBounds(at));
+        return Err(SheetRefusal::LineBounds(at));
     }
     Ok((line, rest))
 }
 
 // The sheet of some lines, in a text that ends at `end`.
-fn lines(end: usize, text: &[u8]) -> Result<Sheet, Refusal>
+fn lines(end: usize, text: &[u8]) -> Result<Sheet, SheetRefusal>
     requires { length text.now ≤ end }
     ensures { result ≡ map_ok (laid (replicate 13 nothing)) (lines_from end 0 end text.now) }
 {
@@ -122,12 +123,12 @@ impl Sheet {
     /// for each slot, in rising order, each line with a line feed.
     ///
     /// Refuses by the first line that is wrong: the names (29), its form (30), its bounds (31).
-    pub fn parse(text: &[u8]) -> Result<Sheet, Refusal>
+    pub fn parse(text: &[u8]) -> Result<Sheet, SheetRefusal>
         ensures { Parses text.now result }
     {
         match text.strip_prefix(&NAMES) {
             Some(rest) => lines(text.len(), rest),
-            None => Err(Refusal::SheetNames),
+            None => Err(SheetRefusal::FirstLine),
         }
     }
 }

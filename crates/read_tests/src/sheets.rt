@@ -1,10 +1,10 @@
-use profile::{Bounds, Fixed, Profile, Sheet};
+use profile::{Bounds, Fixed, Profile, Sheet, SheetRefusal};
 use std::process::Abort;
 use std::test::Fail;
-use wire::{Refusal, Told};
+use wire::Told;
 
 // Each text is refused so, or is a sheet where there is no refusal.
-fn each(rt: &impl Abort, refusal: Option<Refusal>, texts: &[&[u8]]) {
+fn each(rt: &impl Abort, refusal: Option<SheetRefusal>, texts: &[&[u8]]) {
     for text in texts {
         assert_eq!(rt; Sheet::parse(text).err(), refusal);
     }
@@ -68,7 +68,7 @@ fn first_lines(rt: HostRuntime) {
         b"slot  least most rank\n",
         b"1 0 0 0\n",
     ];
-    each(&rt, Some(Refusal::SheetNames), &texts);
+    each(&rt, Some(SheetRefusal::FirstLine), &texts);
 }
 
 #[test]
@@ -84,27 +84,47 @@ fn lines_that_are_not_four_numbers(rt: HostRuntime) {
         b"slot least most rank\n2  1 1 0\n",
         b"slot least most rank\n\n",
     ];
-    each(&rt, Some(Refusal::SheetLine(21)), &first);
+    each(&rt, Some(SheetRefusal::LineForm(21)), &first);
     let second: [&[u8]; 1] = [b"slot least most rank\n2 1 1 0\n3 -1 1 0\n"];
-    each(&rt, Some(Refusal::SheetLine(29)), &second);
+    each(&rt, Some(SheetRefusal::LineForm(29)), &second);
 }
 
-// The two numbers that are told of a sheet's line.
+const TOLD: [(&[u8], u8, usize, &str); 3] = [
+    (
+        b"slot least most\n2 1 1\n",
+        29,
+        0,
+        "the first line is not 'slot least most rank' and a line feed",
+    ),
+    (
+        b"slot least most rank\n2 1,5 1 0\n",
+        30,
+        21,
+        "a line is not four numbers, one space between, and a line feed, byte 21",
+    ),
+    (
+        b"slot least most rank\n2 1 1 0\n2 2 1 0\n",
+        31,
+        29,
+        "a line's numbers are out of bounds, or its slot does not rise, byte 29",
+    ),
+];
+
+// The two numbers that are told of a sheet's line, and its words.
 #[test]
-fn refusals_of_sheets_as_they_are_told(rt: HostRuntime) {
-    let texts: [(&[u8], u8, usize); 3] = [
-        (b"slot least most\n2 1 1\n", 29, 0),
-        (b"slot least most rank\n2 1,5 1 0\n", 30, 21),
-        (b"slot least most rank\n2 2 1 0\n", 31, 21),
-    ];
-    for (text, number, place) in texts {
+fn refusals_of_sheets_as_they_are_told(rt: HostRuntime) -> Result<(), Fail> {
+    for (text, number, place, words) in TOLD {
+        let refusal = Sheet::parse(text).err().expect(&rt, "a refusal");
         let told = Told {
             number,
             place,
             detail: 0,
         };
-        assert_eq!(rt; Sheet::parse(text).err().map(Refusal::told), Some(told));
+        assert_eq!(rt; refusal.told(), told);
+        assert_eq!(rt; Told::from(refusal), told);
+        assert_eq!(rt; format!(in rt.alloc(); "{refusal}")?.as_str(), words);
     }
+    Ok(())
 }
 
 #[test]
@@ -116,11 +136,11 @@ fn lines_out_of_bounds(rt: HostRuntime) {
         b"slot least most rank\n2 0 25 0\n",
         b"slot least most rank\n2 0 1 25\n",
     ];
-    each(&rt, Some(Refusal::SheetBounds(21)), &first);
+    each(&rt, Some(SheetRefusal::LineBounds(21)), &first);
     let second: [&[u8]; 2] = [
         b"slot least most rank\n3 1 1 0\n3 1 1 0\n",
         // the first line that is wrong is the one told
         b"slot least most rank\n3 1 1 0\n2 1 1 0\nx\n",
     ];
-    each(&rt, Some(Refusal::SheetBounds(29)), &second);
+    each(&rt, Some(SheetRefusal::LineBounds(29)), &second);
 }

@@ -3,7 +3,7 @@ use profile::{Fixed, Profile, Sheet};
 use reader::read;
 use std::process::Abort;
 use std::test::Fail;
-use verifier::{Pinned, TrustList, Verifier};
+use verifier::{Pinned, TrustList, TrustRefusal, Verifier};
 use wire::{MOST_PAYLOADS, Refusal, Row, Walked};
 
 const MESSAGE: [u8; 13] = [1, 26, 4, 1, 0x20, 0, 0, 1, 0, 1, 0x20, 1, 0xaa];
@@ -74,7 +74,7 @@ fn the_shortest_message(rt: HostRuntime) -> Result<(), Fail> {
 fn a_list_over_the_pinned_verifier(rt: HostRuntime) -> Result<(), Fail> {
     let sheet = Sheet::parse(SIGN_ALONE)?;
     let mut list = TrustList::new(PINNED);
-    assert_eq!(rt; list.enter(b""), Err(Refusal::SignerLength));
+    assert_eq!(rt; list.enter(b""), Err(TrustRefusal::SignerLength));
     assert_eq!(rt; list.enter(b"a"), Ok(()));
     assert_eq!(rt; told(&MESSAGE, &sheet, &list), Err(Refusal::NotPassed(12)));
     Ok(())

@@ -1,5 +1,6 @@
-use verifier::{KeyTag, Pinned, TrustList, Verifier, same_bytes, same_identity};
-use wire::Refusal;
+use std::test::Fail;
+use verifier::{KeyTag, Pinned, TrustList, TrustRefusal, Verifier, same_bytes, same_identity};
+use wire::Told;
 
 const ZERO: KeyTag = KeyTag { key: 0 };
 
@@ -45,19 +46,43 @@ fn a_list_that_is_full(rt: HostRuntime) {
     for name in names {
         assert_eq!(rt; list.enter(&[name]), Ok(()));
     }
-    assert_eq!(rt; list.enter(b"i"), Err(Refusal::ListFull));
+    assert_eq!(rt; list.enter(b"i"), Err(TrustRefusal::ListFull));
     assert_eq!(rt; list.enter(b"h"), Ok(()));
-    assert_eq!(rt; list.enter(b""), Err(Refusal::SignerLength));
+    assert_eq!(rt; list.enter(b""), Err(TrustRefusal::SignerLength));
     assert!(rt; list.passes(b"h", b"", &ZERO.sign(b"h", b"")));
     assert!(rt; !list.passes(b"h", b"", &ZERO.sign(b"g", b"")));
     assert!(rt; !list.passes(b"i", b"", &ZERO.sign(b"i", b"")));
+}
+
+const TOLD: [(TrustRefusal, u8, &str); 2] = [
+    (
+        TrustRefusal::SignerLength,
+        27,
+        "a signer has 1 to 128 bytes",
+    ),
+    (TrustRefusal::ListFull, 28, "the trust list is full"),
+];
+
+#[test]
+fn refusals_of_signers_as_they_are_told(rt: HostRuntime) -> Result<(), Fail> {
+    for (refusal, number, words) in TOLD {
+        let told = Told {
+            number,
+            place: 0,
+            detail: 0,
+        };
+        assert_eq!(rt; refusal.told(), told);
+        assert_eq!(rt; Told::from(refusal), told);
+        assert_eq!(rt; format!(in rt.alloc(); "{refusal}")?.as_str(), words);
+    }
+    Ok(())
 }
 
 #[test]
 fn signers_of_the_list(rt: HostRuntime) {
     let mut list = TrustList::new(ZERO);
     let longest = [b'x'; 128];
-    assert_eq!(rt; list.enter(&[b'x'; 129]), Err(Refusal::SignerLength));
+    assert_eq!(rt; list.enter(&[b'x'; 129]), Err(TrustRefusal::SignerLength));
     assert!(rt; !list.passes(&longest, b"", &ZERO.sign(&longest, b"")));
     assert_eq!(rt; list.enter(&longest), Ok(()));
     // entered twice, it takes one place

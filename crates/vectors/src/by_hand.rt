@@ -7,10 +7,10 @@ use crate::family::Family;
 use crate::ours::is_signed_by;
 use crate::station::Station;
 use crate::totals::Totals;
-use profile::{Fixed, Sheet};
+use profile::{Fixed, Sheet, SheetRefusal};
 use std::io;
-use verifier::{KeyTag, TrustList};
-use wire::{Refusal, Told, Walked};
+use verifier::{KeyTag, TrustList, TrustRefusal};
+use wire::{Told, Walked};
 
 // A header of ten bytes and SIGN with the signature AA.
 const SMALL: [u8; 13] = [1, 26, 4, 1, 0x20, 0, 0, 1, 0, 1, 0x20, 1, 0xaa];
@@ -92,7 +92,7 @@ fn sheet_line(family: &mut Family<'_>, text: &[u8], number: u8) -> io::Result<()
         place: 21,
         detail: 0,
     });
-    let ours = Sheet::parse(text).map(|_| 0).map_err(Refusal::told);
+    let ours = Sheet::parse(text).map(|_| 0).map_err(SheetRefusal::told);
     let theirs = second::Sheet::parse(text).map(|_| 0).map_err(told);
     family.answer(ours, expected, text)?;
     family.answer(theirs, expected, text)
@@ -117,7 +117,7 @@ fn trusted(family: &mut Family<'_>) -> io::Result<()> {
     ];
     let expected = [27, 27, 0, 0, 0, 0, 0, 0, 0, 0, 28, 0];
     for (signer, number) in signers.into_iter().zip(expected) {
-        let ours = list.enter(signer).map(|_| 0).map_err(Refusal::told);
+        let ours = list.enter(signer).map(|_| 0).map_err(TrustRefusal::told);
         let told = Told {
             number,
             place: 0,

@@ -1,6 +1,8 @@
 // Why a file is not taken: the line that tells it.
+use profile::SheetRefusal;
 use std::io;
 use thiserror::Error;
+use verifier::TrustRefusal;
 use wire::Refusal;
 
 #[derive(Debug, Drop, Error)]
@@ -10,11 +12,16 @@ pub enum Fault<'a> {
         file: &'a str,
         refusal: Refusal,
     },
+    #[error("{file} refused {told} {refusal}", told = .refusal.told())]
+    SheetRefused {
+        file: &'a str,
+        refusal: SheetRefusal,
+    },
     #[error("{file} refused {told} {refusal} (line {line})", told = .refusal.told())]
     LineRefused {
         file: &'a str,
         line: usize,
-        refusal: Refusal,
+        refusal: TrustRefusal,
     },
     #[error("{file} unreadable {error}")]
     Unreadable {

@@ -86,7 +86,7 @@ fn chosen<'a>(rt: &HostRuntime, rules: Rules<'a>) -> Result<Choice, Fault<'a>> {
         Rules::Sheet(file) => file,
     };
     let text = text_in(rt, file)?;
-    let sheet = Sheet::parse(&text).map_err(|refusal| Fault::Refused { file, refusal })?;
+    let sheet = Sheet::parse(&text).map_err(|refusal| Fault::SheetRefused { file, refusal })?;
     Ok(Choice::Sheet(sheet))
 }
 

@@ -6,6 +6,7 @@ mod few;
 mod interface;
 mod key_tag;
 mod pinned;
+mod refusal;
 mod signers;
 mod trust_list;
 
@@ -13,4 +14,5 @@ pub use compare::{same_bytes, same_identity};
 pub use interface::Verifier;
 pub use key_tag::KeyTag;
 pub use pinned::Pinned;
+pub use refusal::TrustRefusal;
 pub use trust_list::TrustList;

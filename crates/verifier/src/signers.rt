@@ -4,8 +4,8 @@ ghost use Rattle.verifier.specs.Signers.{on_list, Enters};
 
 use crate::compare::same_identity;
 use crate::few::Few;
+use crate::refusal::TrustRefusal;
 use std::marker::Model;
-use wire::Refusal;
 
 const LONGEST_SIGNER: usize = 128;
 
@@ -44,17 +44,17 @@ impl Signers {
     }
 
     // One that is already there is accepted, full or not.
-    pub(crate) fn enter(&mut self, signer: &[u8]) -> Result<(), Refusal>
+    pub(crate) fn enter(&mut self, signer: &[u8]) -> Result<(), TrustRefusal>
         ensures { Enters signer.now self.old self.new result }
     {
         if signer.is_empty() || signer.len() > LONGEST_SIGNER {
-            return Err(Refusal::SignerLength);
+            return Err(TrustRefusal::SignerLength);
         }
         if self.contains(signer) {
             return Ok(());
         }
         if self.entries.is_full() {
-            return Err(Refusal::ListFull);
+            return Err(TrustRefusal::ListFull);
         }
         self.entries.push(Few::of(signer, 0));
         Ok(())

@@ -4,9 +4,9 @@ ghost use Rattle.verifier.specs.Signers.{Enters};
 ghost use Rattle.verifier.specs.TrustLists.{trust_passes};
 
 use crate::interface::Verifier;
+use crate::refusal::TrustRefusal;
 use crate::signers::Signers;
 use std::marker::Model;
-use wire::Refusal;
 
 /// A verifier that passes what the one below it passes, in the name of signers on a list of at most
 /// eight.
@@ -41,7 +41,7 @@ impl<V> TrustList<V> {
     ///
     /// Refuses one that does not have 1 to 128 bytes (27), and a ninth (28); the list stays as it
     /// was then.
-    pub fn enter(&mut self, signer: &[u8]) -> Result<(), Refusal>
+    pub fn enter(&mut self, signer: &[u8]) -> Result<(), TrustRefusal>
         ensures list { Enters signer.now self.old.signers self.new.signers result }
         ensures below { self.new.below ≡ self.old.below }
     {

@@ -151,7 +151,7 @@ const TOLD: [(Refusal, &str); 5] = [
         },
         "17 32 1",
     ),
-    (Refusal::SheetBounds(21), "31 21 0"),
+    (Refusal::RowOutside, "26 0 0"),
 ];
 
 #[test]

@@ -1,7 +1,7 @@
--- Each refusal by its number, place and detail, and which of them a profile gives.
+-- What tells a refusal; each one of messages and drafts by its number, place and detail, and which of them a profile gives.
 use Rattle.std.specs.Prelude.{ℕ, Bool, true, false}
 use Rattle.wire.specs.declared.refusal.Refusal.{Refusal}
-use Rattle.wire.specs.declared.refusal.Refusal.TheVariants.{FewRows, TooLong, TooShort, Version, DataType, SessionMap, SessionCut, SessionRule, UnknownCode, ExtraPayload, PayloadCut, PayloadRule, BytesLeft, FieldNotTaken, RankFalls, AboveMost, BelowLeast, NotPassed, NoHeader, NoPosition, MapInfoLeft, DraftFull, NoRoom, SignForm, SignatureLength, RowOutside, SignerLength, ListFull, SheetNames, SheetLine, SheetBounds}
+use Rattle.wire.specs.declared.refusal.Refusal.TheVariants.{FewRows, TooLong, TooShort, Version, DataType, SessionMap, SessionCut, SessionRule, UnknownCode, ExtraPayload, PayloadCut, PayloadRule, BytesLeft, FieldNotTaken, RankFalls, AboveMost, BelowLeast, NotPassed, NoHeader, NoPosition, MapInfoLeft, DraftFull, NoRoom, SignForm, SignatureLength, RowOutside}
 use Rattle.wire.specs.declared.refusal.Told.{Told}
 
 abbrev pub tells : ℕ → ℕ → ℕ → Told
@@ -34,11 +34,6 @@ told NoRoom = tells 23 0 0
 told SignForm = tells 24 0 0
 told SignatureLength = tells 25 0 0
 told RowOutside = tells 26 0 0
-told SignerLength = tells 27 0 0
-told ListFull = tells 28 0 0
-told SheetNames = tells 29 0 0
-told (SheetLine start) = tells 30 start 0
-told (SheetBounds start) = tells 31 start 0
 
 -- what a profile refuses: a field, a rank, a slot that stands too often, one that stands too seldom
 abbrev pub of_profile : Refusal → Bool

@@ -87,14 +87,6 @@ refusal_words refusal.SignForm =
 refusal_words refusal.SignatureLength =
     codes "the signature has another length than close was given"
 refusal_words refusal.RowOutside = codes "the row does not lie inside the message"
-refusal_words refusal.SignerLength = codes "a signer has 1 to 128 bytes"
-refusal_words refusal.ListFull = codes "the trust list is full"
-refusal_words refusal.SheetNames =
-    codes "the first line is not 'slot least most rank' and a line feed"
-refusal_words (refusal.SheetLine n) =
-    codes "a line is not four numbers, one space between, and a line feed"
-refusal_words (refusal.SheetBounds n) =
-    codes "a line's numbers are out of bounds, or its slot does not rise"
 
 -- the slot and the field that a number stands for
 abbrev pub slot_named : ℕ → Slot

@@ -1,49 +1,79 @@
-// Refusals: a variant for each, with the values that vary in it. Fields and slots are told by number, since a profile is asked for every
-// number from 0 to 255.
+// Refusals: a variant for each, with the values that vary in it. Fields and slots are told by
+// number, since a profile is asked for every number from 0 to 255.
 ghost use Rattle.std.specs.Prelude.{◌≡◌, Some};
 ghost use Rattle.wire.specs.declared.refusal.Refusal.{Refusal};
-ghost use Rattle.wire.specs.Refusals.{told};
+ghost use Rattle.wire.specs.Refusals.{tells, told};
 ghost use Rattle.wire.specs.Texts.{told_text};
 
 use crate::limits::LONGEST;
 use std::fmt;
 
+/// Why a message, a draft or a part of either is refused.
+///
+/// Sheets and trust lists have enums of their own, in `profile` and `verifier`; each is told as
+/// [`Told`], and no two refusals of the three have one number. A byte is counted from the
+/// message's start, or from that of what is offered to a draft.
 #[derive(Clone, Copy, PartialEq, Eq, Debug)]
 pub enum Refusal {
+    /// 1: fewer than 24 rows were lent.
     FewRows,
+    /// 2: the message is longer than 8192 bytes, which is its place.
     TooLong,
+    /// 3: the message is shorter than 10 bytes, by its length.
     TooShort(usize),
+    /// 4: the version is not 1.
     Version,
+    /// 5: the data type, at byte 1, is not 26.
     DataType,
+    /// 6: #CS, at this byte, does not go with the map type.
     SessionMap(usize),
+    /// 7: a session runs past the end, by its start.
     SessionCut(usize),
+    /// 8: a session's Prot type is not 0, or its data has no lawful length, by its start.
     SessionRule(usize),
+    /// 9: a code names no known payload, by the byte that has it.
     UnknownCode(usize),
+    /// 10: there is a 25th payload, by its start.
     ExtraPayload(usize),
+    /// 11: a payload runs past the end, by its start.
     PayloadCut(usize),
+    /// 12: a payload breaks the rule inside it, by its start.
     PayloadRule(usize),
+    /// 13: bytes are left behind the last payload, by the first of them.
     BytesLeft(usize),
+    /// 14: the profile does not take a field's value; the field is its detail.
     FieldNotTaken { byte: usize, field: u8 },
+    /// 15: a payload's rank is below that of the one before; its slot is its detail.
     RankFalls { start: usize, slot: u8 },
+    /// 16: a payload's slot stands more often than the profile allows; the slot is its detail.
     AboveMost { start: usize, slot: u8 },
+    /// 17: a slot stands less often than the profile asks, by the message's length; the slot is
+    /// its detail.
     BelowLeast { length: usize, slot: u8 },
+    /// 18: the verifier does not pass the signature, by the byte where it starts.
     NotPassed(usize),
+    /// 19: the draft has no header yet.
     NoHeader,
+    /// 20: the draft has no such position.
     NoPosition,
+    /// 21: map info is left behind its sessions.
     MapInfoLeft,
+    /// 22: a 24th payload would leave no room for SIGN.
     DraftFull,
+    /// 23: the draft would run past the bytes that count.
     NoRoom,
+    /// 24: S type is above 15, or the signature's length is not 1 to 4095.
     SignForm,
+    /// 25: the signature does not have the length that close was given.
     SignatureLength,
+    /// 26: a row does not lie inside the message.
     RowOutside,
-    SignerLength,
-    ListFull,
-    SheetNames,
-    SheetLine(usize),
-    SheetBounds(usize),
 }
 
-// A refusal as it is told: its number, the byte that it names, and its detail.
+/// A refusal as programs and C are told it.
+///
+/// Its number says which it is, its place is a byte or 0, and its detail a field's or a slot's
+/// number or 0.
 #[derive(Clone, Copy, PartialEq, Eq, Debug)]
 pub struct Told {
     pub number: u8,
@@ -51,55 +81,53 @@ pub struct Told {
     pub detail: u8,
 }
 
-const fn tells(number: u8, place: usize, detail: u8) -> Told
-    ensures { result ≡ record { number = number; place = place; detail = detail } }
-{
-    Told {
-        number,
-        place,
-        detail,
+impl Told {
+    /// A refusal with this number, place and detail.
+    pub const fn new(number: u8, place: usize, detail: u8) -> Told
+        ensures { result ≡ tells number place detail }
+    {
+        Told {
+            number,
+            place,
+            detail,
+        }
     }
 }
 
 impl Refusal {
-    // What From below is made by.
+    /// The refusal's number, place and detail.
     pub fn told(self) -> Told
         ensures is { result ≡ told self }
         // Two refusals with the same number, place and detail are one.
         ensures apart { (other : Refusal) → told other ≡ result → other ≡ self }
     {
         match self {
-            Refusal::FewRows => tells(1, 0, 0),
-            Refusal::TooLong => tells(2, LONGEST, 0),
-            Refusal::TooShort(length) => tells(3, length, 0),
-            Refusal::Version => tells(4, 0, 0),
-            Refusal::DataType => tells(5, 1, 0),
-            Refusal::SessionMap(place) => tells(6, place, 0),
-            Refusal::SessionCut(place) => tells(7, place, 0),
-            Refusal::SessionRule(place) => tells(8, place, 0),
-            Refusal::UnknownCode(place) => tells(9, place, 0),
-            Refusal::ExtraPayload(place) => tells(10, place, 0),
-            Refusal::PayloadCut(place) => tells(11, place, 0),
-            Refusal::PayloadRule(place) => tells(12, place, 0),
-            Refusal::BytesLeft(place) => tells(13, place, 0),
-            Refusal::FieldNotTaken { byte, field } => tells(14, byte, field),
-            Refusal::RankFalls { start, slot } => tells(15, start, slot),
-            Refusal::AboveMost { start, slot } => tells(16, start, slot),
-            Refusal::BelowLeast { length, slot } => tells(17, length, slot),
-            Refusal::NotPassed(place) => tells(18, place, 0),
-            Refusal::NoHeader => tells(19, 0, 0),
-            Refusal::NoPosition => tells(20, 0, 0),
-            Refusal::MapInfoLeft => tells(21, 0, 0),
-            Refusal::DraftFull => tells(22, 0, 0),
-            Refusal::NoRoom => tells(23, 0, 0),
-            Refusal::SignForm => tells(24, 0, 0),
-            Refusal::SignatureLength => tells(25, 0, 0),
-            Refusal::RowOutside => tells(26, 0, 0),
-            Refusal::SignerLength => tells(27, 0, 0),
-            Refusal::ListFull => tells(28, 0, 0),
-            Refusal::SheetNames => tells(29, 0, 0),
-            Refusal::SheetLine(place) => tells(30, place, 0),
-            Refusal::SheetBounds(place) => tells(31, place, 0),
+            Refusal::FewRows => Told::new(1, 0, 0),
+            Refusal::TooLong => Told::new(2, LONGEST, 0),
+            Refusal::TooShort(length) => Told::new(3, length, 0),
+            Refusal::Version => Told::new(4, 0, 0),
+            Refusal::DataType => Told::new(5, 1, 0),
+            Refusal::SessionMap(place) => Told::new(6, place, 0),
+            Refusal::SessionCut(place) => Told::new(7, place, 0),
+            Refusal::SessionRule(place) => Told::new(8, place, 0),
+            Refusal::UnknownCode(place) => Told::new(9, place, 0),
+            Refusal::ExtraPayload(place) => Told::new(10, place, 0),
+            Refusal::PayloadCut(place) => Told::new(11, place, 0),
+            Refusal::PayloadRule(place) => Told::new(12, place, 0),
+            Refusal::BytesLeft(place) => Told::new(13, place, 0),
+            Refusal::FieldNotTaken { byte, field } => Told::new(14, byte, field),
+            Refusal::RankFalls { start, slot } => Told::new(15, start, slot),
+            Refusal::AboveMost { start, slot } => Told::new(16, start, slot),
+            Refusal::BelowLeast { length, slot } => Told::new(17, length, slot),
+            Refusal::NotPassed(place) => Told::new(18, place, 0),
+            Refusal::NoHeader => Told::new(19, 0, 0),
+            Refusal::NoPosition => Told::new(20, 0, 0),
+            Refusal::MapInfoLeft => Told::new(21, 0, 0),
+            Refusal::DraftFull => Told::new(22, 0, 0),
+            Refusal::NoRoom => Told::new(23, 0, 0),
+            Refusal::SignForm => Told::new(24, 0, 0),
+            Refusal::SignatureLength => Told::new(25, 0, 0),
+            Refusal::RowOutside => Told::new(26, 0, 0),
         }
     }
 }

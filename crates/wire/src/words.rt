@@ -38,11 +38,6 @@ fn words(refusal: &Refusal) -> &'static str
         Refusal::SignForm => "S type is above 15, or the signature's length is not 1 to 4095",
         Refusal::SignatureLength => "the signature has another length than close was given",
         Refusal::RowOutside => "the row does not lie inside the message",
-        Refusal::SignerLength => "a signer has 1 to 128 bytes",
-        Refusal::ListFull => "the trust list is full",
-        Refusal::SheetNames => "the first line is not 'slot least most rank' and a line feed",
-        Refusal::SheetLine(_) => "a line is not four numbers, one space between, and a line feed",
-        Refusal::SheetBounds(_) => "a line's numbers are out of bounds, or its slot does not rise",
     }
 }
 
