@@ -54,7 +54,7 @@ fn make_all<'a>(
         buffer.old buffer.new result }
 {
     set_calls(rows, bytes, profile, calls);
-    run(buffer, calls, replies)
+    run(buffer, calls, replies).length
 }
 
 // The rows that there are places for.

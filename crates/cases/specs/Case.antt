@@ -1,6 +1,7 @@
 -- A case tried by hand, and when it comes out as it says.
-use Rattle.std.specs.Prelude.{◌≡◌, ℕ, Bool, List, ◌++◌, map}
-use Rattle.wire.specs.Answers.{Answer, and_then}
+use Rattle.std.specs.Prelude.{◌≡◌, ℕ, Bool, List, ◌++◌, map, Result}
+use Rattle.wire.specs.declared.refusal.Told.{Told}
+use Rattle.wire.specs.Answers.{and_then, reported}
 use Rattle.wire.specs.Walking.{walking}
 use Rattle.profile.specs.Tables.{Tables}
 use Rattle.verifier.specs.Signed.{Signed}
@@ -15,16 +16,16 @@ pub data Case : Type 0 where
   -- a message that is walked
   walks : List ℕ → Outcome → Case
   -- a message that is read, under a profile or the text of a sheet, and a verifier
-  reads : Answer Tables → (Signed → Bool) → List ℕ → Outcome → Case
+  reads : Result Tables Told → (Signed → Bool) → List ℕ → Outcome → Case
   -- calls on a draft that begins in a buffer: what each answers, and the whole buffer afterwards
   drafts : List ℕ → List Step → List Outcome → List ℕ → Case
   -- the tag of a key over a signer and a span
   tags : ℕ → List ℕ → List ℕ → ℕ → Case
 
 abbrev pub Agrees : Case → Type 0
-Agrees (walks bytes outcome) = of_message (walking bytes) ≡ outcome
+Agrees (walks bytes outcome) = of_message (reported (walking bytes)) ≡ outcome
 Agrees (reads profile verifier bytes outcome) =
-    of_message (and_then profile (λ tables. reading tables verifier bytes)) ≡ outcome
+    of_message (and_then profile (λ tables. reported (reading tables verifier bytes))) ≡ outcome
 Agrees (drafts buffer calls outcomes left) =
     (map of_call (replies (counted buffer) begin calls) ≡ outcomes) ×
     (image buffer (ends (counted buffer) begin calls) ≡ left)

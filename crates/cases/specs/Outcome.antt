@@ -1,12 +1,11 @@
 -- What a message or a call comes to.
-use Rattle.std.specs.Prelude.{ℕ, List, Ok, Err}
+use Rattle.std.specs.Prelude.{ℕ, List, Result, Ok, Err}
 use Rattle.wire.specs.declared.row.Row.{Row}
 use Rattle.wire.specs.declared.row.Walked.{Walked}
-use Rattle.wire.specs.declared.refusal.Refusal.{Refusal}
+use Rattle.wire.specs.declared.refusal.Told.{Told}
 use Rattle.wire.specs.Refusals.{told}
 use Rattle.wire.specs.Messages.{Message}
 use Rattle.wire.specs.Rows.{rows, walked_of}
-use Rattle.wire.specs.Answers.{Answer}
 use Rattle.plain.specs.declared.calls.Reply.{Reply}
 use Rattle.plain.specs.declared.calls.Reply.TheVariants as reply
 
@@ -20,16 +19,17 @@ pub data Outcome : Type 0 where
   refused : ℕ → ℕ → ℕ → Outcome
 
 -- by number, place and detail
-abbrev refusal : Refusal → Outcome
-refusal f = refused (told f).number (told f).place (told f).detail
+abbrev refusal : Told → Outcome
+refusal t = refused t.number t.place t.detail
 
-abbrev pub of_message : Answer Message → Outcome
+-- of an answer as it is told, whatever refuses
+abbrev pub of_message : Result Message Told → Outcome
 of_message (Ok m) = accepted (rows m) (walked_of m)
-of_message (Err f) = refusal f
+of_message (Err t) = refusal t
 
 abbrev pub of_call : Reply → Outcome
 of_call reply.Done = done
 of_call (reply.Delivered n) = delivered n
 of_call (reply.Released n) = released n
 of_call reply.Misplaced = misplaced
-of_call (reply.Refused f) = refusal f
+of_call (reply.Refused f) = refusal (told f)
