@@ -2,7 +2,7 @@
 ghost use Rattle.std.specs.Prelude.{◌≡◌};
 ghost use Rattle.plain.specs.Offers.{unplaced, asked, offering, mapping};
 
-use walk::{body as body_length, info_length, map_fits};
+use layout::{body_length, info_length, map_fits};
 use wire::{Kind, Refusal};
 
 // A map that is offered has no place in a message: the two refusals of its sessions that tell one

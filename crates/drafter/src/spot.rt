@@ -3,7 +3,7 @@ ghost use Rattle.std.specs.Prelude.{◌≡◌, ℕ, ◌<◌, ◌≤◌, length};
 ghost use Rattle.wire.specs.Extents.{extent};
 ghost use Rattle.drafter.specs.Spots.{kind_in, size_at, spot_at};
 
-use walk::reach;
+use layout::extent;
 use wire::{Kind, byte_at};
 
 // Where a payload starts, and the byte that names it.
@@ -24,19 +24,19 @@ pub(crate) struct Part {
 
 // How far the body of a payload of this code reaches. By an arm for each kind, as in a walk: so one
 // jump is left.
-fn reach_of(code: u8, rest: &[u8]) -> usize
+fn extent_of(code: u8, rest: &[u8]) -> usize
     ensures is { result ≡ extent (kind_in code) rest.now }
     ensures small { result < 65540 }
 {
     match Kind::of(code) {
-        Some(Kind::Rand) => reach(Kind::Rand, rest),
-        Some(Kind::Idr) => reach(Kind::Idr, rest),
-        Some(Kind::Sp) => reach(Kind::Sp, rest),
-        Some(Kind::Sakke) => reach(Kind::Sakke, rest),
-        Some(Kind::Ext) => reach(Kind::Ext, rest),
-        Some(Kind::Sign) => reach(Kind::Sign, rest),
+        Some(Kind::Rand) => extent(Kind::Rand, rest),
+        Some(Kind::Idr) => extent(Kind::Idr, rest),
+        Some(Kind::Sp) => extent(Kind::Sp, rest),
+        Some(Kind::Sakke) => extent(Kind::Sakke, rest),
+        Some(Kind::Ext) => extent(Kind::Ext, rest),
+        Some(Kind::Sign) => extent(Kind::Sign, rest),
         // No draft holds a code that names nothing.
-        Some(Kind::T) | None => reach(Kind::T, rest),
+        Some(Kind::T) | None => extent(Kind::T, rest),
     }
 }
 
@@ -46,7 +46,7 @@ pub(crate) fn size_at(bytes: &[u8], spot: Spot) -> usize
     ensures is { result ≡ size_at bytes.now spot }
     ensures small { result < 65541 }
 {
-    1 + reach_of(byte_at(bytes, spot.naming), &bytes[spot.at + 1..])
+    1 + extent_of(byte_at(bytes, spot.naming), &bytes[spot.at + 1..])
 }
 
 // The spot of the payload at a position, behind a header of so many bytes.

@@ -2,4 +2,3 @@ pub mod Scans
 pub mod Walks
 pub mod Parts
 pub mod Times
-pub mod Measures

@@ -8,7 +8,7 @@ ghost use Rattle.wire.specs.Extents.{body_at};
 ghost use Rattle.wire.specs.Walking.{kind_at};
 ghost use Rattle.walk.specs.Scans.{scanning, links_of, Tells, Holds, Inside};
 
-use crate::layout::body;
+use layout::body_length;
 use wire::{Kind, MOST_PAYLOADS, Refusal, Row, Slot};
 
 // The number of payloads with SIGN, and where SIGN begins and ends.
@@ -53,10 +53,10 @@ fn payload(message: &[u8], kind: Kind, at: usize) -> Result<usize, Refusal>
 {
     // SIGN on a way of its own, which is faster than one for all with 0 or 1 byte before the body.
     if kind == Kind::Sign {
-        return body(kind, at, &message[at..]);
+        return body_length(kind, at, &message[at..]);
     }
     let rest = message.get(at + 1..).ok_or(Refusal::PayloadCut(at))?;
-    Ok(1 + body(kind, at, rest)?)
+    Ok(1 + body_length(kind, at, rest)?)
 }
 
 // What a payload is found to be: the numbers of its row but the start.

@@ -3,7 +3,7 @@ ghost use Rattle.std.specs.Prelude.{◌≡◌, ◌+◌, ◌≤◌, length, IfOk}
 ghost use Rattle.wire.specs.Answers.{map_ok};
 ghost use Rattle.wire.specs.Walking.{heading};
 
-use crate::session::{map_fits, sessions};
+use layout::{map_fits, sessions_end};
 use wire::{Refusal, SAKKE_MESSAGE, VERSION};
 
 // The length of the header: ten fixed bytes, then the sessions of its map.
@@ -23,5 +23,5 @@ pub(crate) fn header(message: &[u8]) -> Result<usize, Refusal>
     if !map_fits(*cs, *map_type) {
         return Err(Refusal::SessionMap(8));
     }
-    sessions(*cs, 10, message)
+    sessions_end(*cs, 10, message)
 }

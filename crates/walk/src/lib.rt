@@ -1,23 +1,18 @@
-// Walks a message and tells its payloads, hands out their bytes, and reads a time stamp. Drafts measure their parts by the same layouts.
+// Walks a message and tells its payloads, hands out their bytes, and reads a time stamp.
 #![tactic(auto)]
 
 mod chain;
 mod clock;
 mod header;
-mod layout;
-mod marked;
 mod part;
 mod scan;
-mod session;
 mod table;
 
 ghost use Rattle.walk.specs.Walks.{Walks};
 
 pub use clock::time;
-pub use layout::{body, reach};
 pub use part::{Part, lookup};
 use scan::scan;
-pub use session::{info_length, map_fits};
 use table::fill;
 use wire::{MOST_PAYLOADS, Refusal, Row, Walked};
 

@@ -1,0 +1,3 @@
+pub mod Items
+pub mod Counts
+pub mod Measured

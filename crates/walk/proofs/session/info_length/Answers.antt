@@ -1,7 +1,0 @@
-use Rattle.std.proofs.Common.{rules}
-use Rattle.wire.proofs.Numbers.{octets}
-use Rattle.walk.proofs.Measured.{sessions_measured}
-use Rattle.walk.proofs.session.info_length.Goals as goal
-
-pub returns-clause-drawn : goal.returns-clause-drawn
-returns-clause-drawn c = sessions_measured c.args.count c.args.info.now (octets _ c.type_inv.info) _ (search rules)
