@@ -8,7 +8,7 @@ ghost use Rattle.layout.specs.Measures.{Measures};
 
 use crate::bodies::{be16_at, length_at};
 use crate::marked::{Layout, part_length};
-use wire::{Refusal, byte_at};
+use wire::{Refusal, byte_at, bytes_from};
 
 /// Whether #CS goes with the map type: no session in an empty map, one to four in a generic one.
 pub fn map_fits(cs: u8, map_type: u8) -> bool
@@ -57,13 +57,6 @@ impl Layout for Session {
     }
 }
 
-// The bytes from a place on; none past the end.
-fn rest_at(bytes: &[u8], at: usize) -> &[u8]
-    ensures { result.now ≡ drop at bytes.now }
-{
-    bytes.get(at..).unwrap_or(&[])
-}
-
 // The length of the session that begins at a place.
 fn session_length(at: usize, bytes: &[u8]) -> Result<usize, Refusal>
     ensures answer { result ≡ map_ok length (session_at at (drop at bytes.now)) }
@@ -71,7 +64,7 @@ fn session_length(at: usize, bytes: &[u8]) -> Result<usize, Refusal>
 {
     part_length(
         &Session,
-        rest_at(bytes, at),
+        bytes_from(bytes, at),
         Refusal::SessionCut(at),
         Refusal::SessionRule(at),
     )

@@ -4,6 +4,8 @@
 #[cfg(test)]
 mod build;
 #[cfg(test)]
+mod judgements;
+#[cfg(test)]
 mod profiles;
 #[cfg(test)]
 mod sheets;

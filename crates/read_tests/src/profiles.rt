@@ -8,7 +8,7 @@ use verifier::{KeyTag, TrustList};
 use wire::{Refusal, Row, Walked};
 
 // A row that no read writes.
-const OLD: Row = Row {
+pub(crate) const OLD: Row = Row {
     code: 9,
     slot: 9,
     start: 9,
@@ -19,7 +19,7 @@ const IDENTITIES: [u8; 4] = [1, 2, 6, 7];
 
 // Every payload that the fixed profiles take, each once: T at 10, RAND at 20, IDRs at 38, 44, 50 and 56, SP at 62, SAKKE at
 // 67, EXT of type 6 at 73 and of type 7 at 83, SIGN at 87, where there is no session.
-fn whole(heap: Global, purpose: u8, sessions: u8) -> Result<Vec<u8>, AllocError> {
+pub(crate) fn whole(heap: Global, purpose: u8, sessions: u8) -> Result<Vec<u8>, AllocError> {
     let mut message = Unsigned::new(heap, purpose, sessions)?;
     message.add(5, &[0; 9])?;
     message.add(
@@ -41,7 +41,7 @@ fn under<P: Profile>(message: &[u8], profile: &P) -> Result<Walked, Refusal> {
     read(message, &mut rows, profile, &KEY)
 }
 
-fn told(count: usize, header: usize, span: usize) -> Result<Walked, Refusal> {
+pub(crate) fn told(count: usize, header: usize, span: usize) -> Result<Walked, Refusal> {
     Ok(Walked {
         count,
         header,

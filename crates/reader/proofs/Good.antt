@@ -1,12 +1,10 @@
 -- What the rows of a lawful message say of its signer, its span and its signature.
-use Rattle.std.proofs.Common.{◌≡◌, ℕ, ◌+◌, ◌<◌, ◌≤◌, cond, eqb, List, [], ◌∷◌, ◌++◌, length, get_or, take, drop, sym, refl, ap, ◌∙◌, subst, inl, inr, append_assoc, arith}
+use Rattle.std.proofs.Common.{◌≡◌, ℕ, ◌+◌, ◌<◌, ◌≤◌, cond, eqb, List, [], ◌∷◌, ◌++◌, length, get_or, take, drop, sym, refl, ap, ◌∙◌, inl, inr, append_assoc, arith}
 use Rattle.std.specs.List.{AllByRecursion}
-use Rattle.std.specs.Option.{IfSome}
 use Rattle.std.proofs.lemmas.Grind.{common_steps}
 use Rattle.std.proofs.lemmas.Bool.{cases_Bool, eqb-true}
 use Rattle.wire.specs.declared.kind.Kind.{Kind}
 use Rattle.wire.specs.declared.kind.Kind.TheVariants.{Sign}
-use Rattle.wire.specs.declared.row.Row.{Row}
 use Rattle.wire.specs.Kinds.{code_of, lead}
 use Rattle.wire.specs.Messages.{Payload, Message, first, front, sign_length, encode, span, pieces, sign_body}
 use Rattle.wire.specs.Layouts.{Body}
@@ -15,13 +13,13 @@ use Rattle.wire.specs.Lawful.{Lawful}
 use Rattle.wire.specs.Rows.{slot_of, slot, size, rows_from, rows, header_length, bytes_in, MarksOff}
 use Rattle.wire.proofs.Tiling.{Drawn, pieces_drawn, marked_off}
 use Rattle.verifier.specs.Signed.{signer_of}
-use Rattle.reader.specs.Reading.{Within, initiator_in, signer_in}
+use Rattle.reader.specs.Reading.{signer_in}
 
--- a body in slot 3 stands behind a next-payload byte, and its ID data behind four bytes of its own
-in_slot : {k : Kind} {body : List ℕ} → Body k body → slot_of k (get_or body 0 0) ≡ 3 → (lead k ≡ 1) × (4 ≤ length body)
+-- a body in slot 3 stands behind a next-payload byte
+in_slot : {k : Kind} {body : List ℕ} → Body k body → slot_of k (get_or body 0 0) ≡ 3 → lead k ≡ 1
 in_slot (t value l) e = absurd (omega arith)
 in_slot (rand r) e = absurd (omega arith)
-in_slot (idr role type d) e = (refl, omega arith)
+in_slot (idr role type d) e = refl
 in_slot (sp policy prot params i) e = absurd (omega arith)
 in_slot (sakke params scheme d) e = absurd (omega arith)
 in_slot (ext type d w) e = absurd (grind arith)
@@ -36,22 +34,6 @@ pub part_inside : (bs : List ℕ) (start n : ℕ) → 0 < n → length (take n (
 part_inside bs start n h e = grind (arith, common_steps)
 
 module _ (bs : List ℕ) where
-  within_from : (at : ℕ) (ps : List Payload) → MarksOff bs (rows_from at ps) ps → AllByRecursion Drawn ps
-      → IfSome (initiator_in (rows_from at ps)) (λ r. (5 ≤ r.length) × (r.start + r.length ≤ length bs))
-  unfolding rows_from MarksOff
-  within_from at [] o d = tt
-  within_from at (p ∷ ps) o d =
-      let rest = within_from (at + size p) ps o.1 d.1 in
-      elim (cases_Bool (eqb (slot p) 3)) [
-        | inl y ↦
-            let s = in_slot d.0 (eqb-true (slot p) 3 y) in
-            let one = s.0 in
-            let long = s.1 in
-            let own = ap length (o.0 ∙ bytes_one p ps one) in
-            rw y (omega arith, part_inside bs at (size p) (omega arith) (own ∙ omega arith))
-        | inr n ↦ rw n rest
-      ]
-
   signer_from : (at : ℕ) (ps : List Payload) → MarksOff bs (rows_from at ps) ps → AllByRecursion Drawn ps → signer_in bs (rows_from at ps) ≡ signer_of ps
   unfolding rows_from MarksOff
   signer_from at [] o d = refl
@@ -60,7 +42,7 @@ module _ (bs : List ℕ) where
       elim (cases_Bool (eqb (slot p) 3)) [
         | inl y ↦
             let s = in_slot d.0 (eqb-true (slot p) 3 y) in
-            rw y (ap (drop 5) (o.0 ∙ bytes_one p ps s.0))
+            rw y (ap (drop 5) (o.0 ∙ bytes_one p ps s))
         | inr n ↦ rw n rest
       ]
 
@@ -69,11 +51,6 @@ first_signer [] body = refl
 first_signer (p ∷ ps) body = ap (λ x. cond (eqb (slot p) 3) (drop 4 p.body) x) (first_signer ps body)
 
 module _ (m : Message) (l : Lawful m) where
-  pub within : Within (length (encode m)) (rows m)
-  within r e =
-      let P : Row → Type 0 = λ x. (5 ≤ x.length) × (x.start + x.length ≤ length (encode m)) in
-      subst (λ o. IfSome o P) e (within_from (encode m) (header_length m) (pieces m) (marked_off m l) (pieces_drawn m l))
-
   pub signer_same : signer_in (encode m) (rows m) ≡ signer_of m.payloads
   signer_same = signer_from (encode m) (header_length m) (pieces m) (marked_off m l) (pieces_drawn m l) ∙ first_signer m.payloads (sign_body m.sign_type m.signature)
 

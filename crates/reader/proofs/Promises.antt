@@ -1,5 +1,5 @@
 -- What read promises follows from what it answers and leaves.
-use Rattle.std.proofs.Common.{◌≡◌, ℕ, ◌-◌, ◌<◌, ◌≤◌, Bool, true, false, leb, List, [], ◌++◌, length, take, drop, replicate, Ok, Err, sym, refl, ap, ◌∙◌, subst, ap₂, append_assoc, append-nil, arith, length-append, take_at, drop_at}
+use Rattle.std.proofs.Common.{◌≡◌, ℕ, ◌<◌, ◌≤◌, Bool, true, false, leb, List, ◌++◌, length, take, drop, Ok, Err, sym, refl, ap, ◌∙◌, subst, ap₂, arith, take_at, drop_at}
 use Rattle.std.proofs.lemmas.Bool.{le-leb, lt-leb}
 use Rattle.wire.specs.declared.refusal.Refusal.{Refusal}
 use Rattle.wire.specs.declared.refusal.Refusal.TheVariants.{FewRows, NotPassed}
@@ -7,21 +7,24 @@ use Rattle.wire.specs.declared.row.Row.{Row}
 use Rattle.wire.specs.declared.row.Walked.{Walked}
 use Rattle.wire.specs.Octets.{Octets}
 use Rattle.wire.specs.Messages.{Message, encode, span, pieces}
-use Rattle.wire.specs.Rows.{rows, header_length, walked_of, blank, filled}
+use Rattle.wire.specs.Rows.{rows, header_length, walked_of, filled}
 use Rattle.wire.specs.Answers.{Answer, check, and_then, map_ok, reported}
 use Rattle.wire.specs.Walking.{walking}
 use Rattle.wire.proofs.Answers.{same_ok, check_ok, and_then_ok, found, refused}
 use Rattle.wire.proofs.Messages.{read_back, only_lawful, told_apart}
 use Rattle.wire.proofs.Tiling.{rows_count}
 use Rattle.walk.specs.Walks.{tabled, Told}
+use Rattle.walk.specs.Tables.{blanks}
 use Rattle.walk.proofs.Promises.{told}
+use Rattle.walk.proofs.Tables.{blanks_filled}
 use Rattle.profile.specs.Tables.{Tables}
 use Rattle.profile.specs.Admitting.{admitting}
 use Rattle.profile.proofs.Admitted.{admits_passed, admitted_passes}
 use Rattle.verifier.specs.Signed.{Signed, signed, signer_of, signed_in}
-use Rattle.reader.specs.Reading.{Within, signer_in, judging, reading, reading_into}
+use Rattle.reader.specs.Reading.{signer_in, judging, reading, reading_into}
 use Rattle.reader.specs.Reads.{Good, Reads}
-use Rattle.reader.proofs.Good.{within, signer_same, split}
+use Rattle.reader.specs.Judges.{ToldRows, Judges}
+use Rattle.reader.proofs.Good.{signer_same, split}
 
 -- two questions in a row, and what is told once both pass
 in_turn : (a : Answer (Unit {0})) (passes : Bool) (f : Refusal) (m : Message)
@@ -30,26 +33,14 @@ in_turn (Ok u) true f m = refl
 in_turn (Ok u) false f m = refl
 in_turn (Err g) passes f m = refl
 
--- a message was walked, and its rows stand in the table
-module _ (bytes : List ℕ) (m : Message) (w : Walked) (blanks table : List Row) (t : Told m bytes blanks w table) where
-  first : take (w.count) table ≡ rows m
-  first =
-      let n : w.count ≡ length (rows m) = omega (arith, ap (λ x. x.count) t.numbers, rows_count (header_length m) (pieces m)) in
-      ap₂ take n t.rows ∙ take_at (rows m) _ (length (rows m)) refl
-
-  shown : (n : ℕ) → n ≡ length (span m) → signed (signer_in bytes (rows m)) (take n bytes) (drop n bytes) ≡ signed_in m
-  shown n e =
-      let is : bytes ≡ span m ++ m.signature = sym t.is ∙ split m in
-      let who : signer_in bytes (rows m) ≡ signer_of m.payloads = ap (λ x. signer_in x (rows m)) (sym t.is) ∙ signer_same m t.lawful in
-      ap₂ (λ x y. signed x y (drop n bytes)) who (ap (take n) is ∙ take_at (span m) m.signature n (sym e))
-      ∙ ap (signed (signer_of m.payloads) (span m)) (ap (drop n) is ∙ drop_at (span m) m.signature n (sym e))
-
-  -- what judge asks
-  pub rows_within : Within (length bytes) (take (w.count) table)
-  rows_within = subst (Within (length bytes)) (sym first) (subst (λ x. Within (length x) (rows m)) t.is (within m t.lawful))
-
-  pub span_within : w.span ≤ length bytes
-  span_within = omega (arith, ap (λ x. x.span) t.numbers, ap length (sym t.is ∙ split m), length-append (span m) m.signature)
+-- a lawful message was walked: what a verifier is shown of it
+module _ (bytes : List ℕ) (told : List Row) (n : ℕ) (m : Message) (w : ToldRows m bytes told n) where
+  shown : signed (signer_in bytes told) (take n bytes) (drop n bytes) ≡ signed_in m
+  shown =
+      let is : bytes ≡ span m ++ m.signature = sym w.is ∙ split m in
+      let who : signer_in bytes told ≡ signer_of m.payloads = ap₂ signer_in (sym w.is) w.rows ∙ signer_same m w.lawful in
+      ap₂ (λ x y. signed x y (drop n bytes)) who (ap (take n) is ∙ take_at (span m) m.signature n (sym w.span))
+      ∙ ap (signed (signer_of m.payloads) (span m)) (ap (drop n) is ∙ drop_at (span m) m.signature n (sym w.span))
 
 module _ (T : Tables) (V : Signed → Bool) (bytes : List ℕ) where
   -- what an accepted reading says of each test on the way
@@ -64,6 +55,31 @@ module _ (T : Tables) (V : Signed → Bool) (bytes : List ℕ) where
       let b = and_then_ok (admitting T bytes (rows a.0)) _ m a.2 in
       let c = check_ok (V (signed_in a.0)) (NotPassed (length (span a.0))) (Ok a.0) m b.2 in
       subst Passed (same_ok a.0 m c.1) (record { walked = a.1; admitted = b.1; passed = c.0 })
+
+  -- the judgement of a lawful message that was walked, and what it promises
+  module _ (told : List Row) (n : ℕ) where
+    judged : (m : Message) → ToldRows m bytes told n
+        → judging T V bytes told n ≡ and_then (admitting T bytes (rows m)) (λ _. check (V (signed_in m)) (NotPassed (length (span m))) (Ok tt))
+    judged m w =
+        ap (λ x. judging T V bytes x n) w.rows
+        ∙ ap₂ (λ s k. and_then (admitting T bytes (rows m)) (λ _. check (V s) (NotPassed k) (Ok tt)))
+        (ap (λ x. signed (signer_in bytes x) (take n bytes) (drop n bytes)) (sym w.rows) ∙ shown bytes told n m w) w.span
+
+    pub judges : (answer : Answer (Unit {0})) → answer ≡ judging T V bytes told n → Judges T V bytes told n answer
+    judges answer says = record {
+      value = says;
+      passes = λ m w g.
+          let a : admitting T bytes (rows m) ≡ Ok tt = ap (λ x. admitting T x (rows m)) (sym w.is) ∙ admitted_passes T m g.lawful g.admitted in
+          says ∙ judged m w ∙ rw (a, g.passed);
+      only_good = λ m w e.
+          let b = and_then_ok (admitting T bytes (rows m)) _ tt (sym (judged m w) ∙ sym says ∙ e) in
+          let c = check_ok (V (signed_in m)) (NotPassed (length (span m))) (Ok tt) tt b.2 in
+          record {
+            lawful = w.lawful;
+            admitted = admits_passed T m w.lawful tt (ap (λ x. admitting T x (rows m)) w.is ∙ b.1);
+            passed = c.0;
+          };
+    }
 
   -- the encoding of a good message is read as that message
   pub read_good : (m : Message) → Good T V m → encode m ≡ bytes → reading T V bytes ≡ Ok m
@@ -133,33 +149,31 @@ module _ (T : Tables) (V : Signed → Bool) (bytes : List ℕ) where
       pub walk_refused : (f : Refusal) (answer : Answer Walked) → Err f ≡ map_ok walked_of (walking bytes) → (g : Refusal) × (answer ≡ Err g) × (g ≡ f) → Reads T V bytes before answer before
       walk_refused f answer e on = refuses f answer (rw (refused (walking bytes) walked_of f e)) on
 
-      module _ (m : Message) (w : Walked) (blanks table : List Row) (t : Told m bytes blanks w table) where
-        walked : walking bytes ≡ Ok m
-        walked = ap walking (sym t.is) ∙ read_back m t.lawful
+      -- a message was walked, and its rows stand in the table
+      module _ (m : Message) (w : Walked) (table : List Row) (t : Told m bytes blanks w table) where
+        first : ToldRows m bytes (take w.count table) w.span
+        first =
+            let n : w.count ≡ length (rows m) = omega (arith, ap (λ x. x.count) t.numbers, rows_count (header_length m) (pieces m)) in
+            record {
+              lawful = t.lawful;
+              is = t.is;
+              rows = ap₂ take n t.rows ∙ take_at (rows m) _ (length (rows m)) refl;
+              span = ap (λ x. x.span) t.numbers;
+            }
 
-        judged : judging T V bytes (take (w.count) table) w.span ≡ and_then (admitting T bytes (rows m)) (λ _. check (V (signed_in m)) (NotPassed (length (span m))) (Ok tt))
-        judged =
-            let n : w.span ≡ length (span m) = ap (λ x. x.span) t.numbers in
-            ap (λ x. judging T V bytes x w.span) (first bytes m w blanks table t)
-            ∙ ap₂ (λ s k. and_then (admitting T bytes (rows m)) (λ _. check (V s) (NotPassed k) (Ok tt))) (shown bytes m w blanks table t w.span n) n
-
-        reading_is : reading T V bytes ≡ and_then (judging T V bytes (take (w.count) table) w.span) (λ _. Ok m)
+        reading_is : reading T V bytes ≡ and_then (judging T V bytes (take w.count table) w.span) (λ _. Ok m)
         reading_is =
+            let walked : walking bytes ≡ Ok m = ap walking (sym t.is) ∙ read_back m t.lawful in
             ap (λ r. and_then r (λ m. and_then (admitting T bytes (rows m)) (λ _. check (V (signed_in m)) (NotPassed (length (span m))) (Ok m)))) walked
-            ∙ in_turn (admitting T bytes (rows m)) (V (signed_in m)) (NotPassed (length (span m))) m ∙ ap (λ r. and_then r (λ _. Ok m)) (sym judged)
+            ∙ in_turn (admitting T bytes (rows m)) (V (signed_in m)) (NotPassed (length (span m))) m
+            ∙ ap (λ r. and_then r (λ _. Ok m)) (sym (judged (take w.count table) w.span m first))
 
-        pub judge_refused : (f : Refusal) (answer : Answer Walked) → Err f ≡ judging T V bytes (take (w.count) table) w.span → (g : Refusal) × (answer ≡ Err g) × (g ≡ f) → Reads T V bytes before answer before
+        pub judge_refused : (f : Refusal) (answer : Answer Walked) → Err f ≡ judging T V bytes (take w.count table) w.span → (g : Refusal) × (answer ≡ Err g) × (g ≡ f) → Reads T V bytes before answer before
         judge_refused f answer e on = refuses f answer (reading_is ∙ ap (λ r. and_then r (λ _. Ok m)) (sym e)) on
 
-        -- the caller's first 24 rows are those of the table
-        copied : drop 24 blanks ≡ [] → table ++ drop 24 before ≡ filled m before
-        copied none =
-            let more : List Row = replicate (24 - length (rows m)) blank in
-            ap (λ x. x ++ drop 24 before) (t.rows ∙ ap (λ x. rows m ++ (more ++ x)) none ∙ ap (λ x. rows m ++ x) (append-nil more))
-            ∙ append_assoc (rows m) more (drop 24 before)
-
-        pub judge_passed : (after : List Row) → Ok tt ≡ judging T V bytes (take (w.count) table) w.span → drop 24 blanks ≡ [] → after ≡ table ++ drop 24 before → Reads T V bytes before (Ok w) after
-        judge_passed after e none to =
-            let is : after ≡ filled m before = to ∙ copied none in
+        pub judge_passed : (after : List Row) → Ok tt ≡ judging T V bytes (take w.count table) w.span → after ≡ table ++ drop 24 before → Reads T V bytes before (Ok w) after
+        judge_passed after e to =
+            -- the caller's first 24 rows are those of the table
+            let is : after ≡ filled m before = to ∙ ap (λ x. x ++ drop 24 before) t.rows ∙ blanks_filled m before in
             let r : reading_into (length before) T V bytes ≡ Ok m = enough ∙ reading_is ∙ ap (λ r. and_then r (λ _. Ok m)) (sym e) in
             reads before after (Ok w) y (ap Ok t.numbers ∙ sym (ap (map_ok walked_of) r), is ∙ sym (ap (λ x. tabled x before) r))

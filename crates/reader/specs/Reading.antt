@@ -1,28 +1,22 @@
 -- What a read finds in bytes under a profile and a verifier, and the first refusal on the way.
-use Rattle.std.specs.Prelude.{ℕ, ◌+◌, ◌≤◌, Bool, List, [], length, take, drop, Option, Ok, ◌==◌, nat_le}
-use Rattle.std.specs.List.{find}
-use Rattle.std.specs.Option.{ForSome, option_map, unwrap_or}
+use Rattle.std.specs.Prelude.{ℕ, Bool, List, [], length, take, drop, Ok, nat_le}
+use Rattle.std.specs.Option.{option_map, unwrap_or}
 use Rattle.wire.specs.declared.refusal.Refusal.TheVariants.{FewRows, NotPassed}
 use Rattle.wire.specs.declared.row.Row.{Row}
 use Rattle.wire.specs.Messages.{Message, span}
-use Rattle.wire.specs.Rows.{rows}
+use Rattle.wire.specs.declared.slot.Slot.TheVariants.{Idri}
+use Rattle.wire.specs.Rows.{rows, first_in_slot}
 use Rattle.wire.specs.Answers.{Answer, check, and_then}
 use Rattle.wire.specs.Walking.{walking}
 use Rattle.profile.specs.Tables.{Tables}
 use Rattle.profile.specs.Admitting.{admitting}
 use Rattle.verifier.specs.Signed.{Signed, signed, signed_in}
 
--- the first row of an IDR of role 1
-abbrev pub initiator_in : List Row → Option Row
-initiator_in rows = find (λ r. r.slot == 3) rows
-
--- it lies inside n bytes, and its ID data behind five of its own
-abbrev pub Within : ℕ → List Row → Type 0
-Within n rows = ForSome (initiator_in rows) (λ r. (5 ≤ r.length) × (r.start + r.length ≤ n))
-
--- that ID data; no bytes if there is none
+-- the ID data of the first IDR of role 1, behind five bytes; no bytes if there is none
 abbrev pub signer_in : List ℕ → List Row → List ℕ
-signer_in bs rows = unwrap_or (option_map (λ r. drop 5 (take r.length (drop r.start bs))) (initiator_in rows)) []
+signer_in bs rows =
+    unwrap_or
+    (option_map (λ r. drop 5 (take r.length (drop r.start bs))) (first_in_slot Idri rows)) []
 
 -- by the rows of the message and the length of its span
 abbrev pub verifying : (Signed → Bool) → List ℕ → List Row → ℕ → Answer (Unit {0})

@@ -1,3 +1,5 @@
 pub mod Scanning
-pub mod Whole
+pub mod Prefixes
 pub mod Promises
+pub mod Windows
+pub mod Tables

@@ -1,18 +1,17 @@
 -- What walk promises follows from what it answers and leaves.
-use Rattle.std.proofs.Common.{◌≡◌, ℕ, ◌-◌, true, leb, List, ◌++◌, length, take, drop, replicate, Ok, sym, refl, ap, ◌∙◌, subst, take_at}
+use Rattle.std.proofs.Common.{◌≡◌, ℕ, true, leb, List, length, take, Ok, sym, refl, ap, ◌∙◌, subst, take_at}
 use Rattle.std.proofs.lemmas.Bool.{le-leb}
 use Rattle.wire.specs.declared.row.Row.{Row}
 use Rattle.wire.specs.declared.row.Walked.{Walked}
 use Rattle.wire.specs.Octets.{Octets}
 use Rattle.wire.specs.Messages.{Message, encode, pieces}
 use Rattle.wire.specs.Lawful.{Lawful}
-use Rattle.wire.specs.Rows.{rows, header_length, walked_of, blank, filled, Tile, MarksOff}
+use Rattle.wire.specs.Rows.{rows, header_length, walked_of, filled, Tile, MarksOff}
 use Rattle.wire.specs.Answers.{Answer, map_ok, reported}
 use Rattle.wire.specs.Walking.{walking, walking_into}
 use Rattle.wire.proofs.Answers.{check_ok, found, refused}
 use Rattle.wire.proofs.Messages.{read_back, only_lawful, told_apart}
 use Rattle.wire.proofs.Tiling.{rows_count, side_by_side, marked_off}
-use Rattle.walk.specs.Scans.{HoldsRows}
 use Rattle.walk.specs.Walks.{tabled, Told, Walks}
 
 -- a message that is told
@@ -50,15 +49,3 @@ module _ (bytes : List ℕ) (before after : List Row) (answer : Answer Walked) (
     told_apart = λ m other l k e o. told_apart m other l k (e ∙ sym o);
     unchanged = λ f e. leaves ∙ ap (λ x. tabled x before) (refused (walking_into (length before) bytes) walked_of f (sym e ∙ says));
   }
-
--- the rows of a scan that is accepted, once they are copied and blanked
-pub copied : (bytes : List ℕ) (before : List Row) (w : Walked) (table after : List Row) → Ok w ≡ map_ok walked_of (walking bytes) → HoldsRows (walking bytes) table
-    → after ≡ take w.count table ++ (replicate (24 - w.count) blank ++ drop 24 before) → after ≡ tabled (walking bytes) before
-copied bytes before w table after e holds is =
-    let f = found (walking bytes) walked_of w e in
-    let m : Message = f.0 in
-    let n : length (rows m) ≡ w.count = rows_count (header_length m) (pieces m) ∙ ap (λ x. x.count) f.2 in
-    let first : take (length (rows m)) table ≡ rows m = subst (λ x. HoldsRows x table) f.1 holds in
-    let all : after ≡ filled m before =
-    is ∙ ap (λ x. take x table ++ (replicate (24 - x) blank ++ drop 24 before)) (sym n) ∙ ap (λ x. x ++ (replicate (24 - length (rows m)) blank ++ drop 24 before)) first in
-    all ∙ sym (ap (λ x. tabled x before) f.1)

@@ -1,6 +1,6 @@
 -- One payload of a chain, and its row.
-use Rattle.std.proofs.Common.{◌≡◌, ℕ, zero, suc, ◌+◌, ◌-◌, ◌<◌, ◌≤◌, false, List, [], ◌∷◌, ◌++◌, length, get_or, take, drop, Ok, Err, sym, refl, ap, ◌∙◌, append_assoc, arith, length-drop, drop-drop}
-use Rattle.std.proofs.lemmas.List.{get_or-drop, get_or_append_left}
+use Rattle.std.proofs.Common.{◌≡◌, ℕ, zero, suc, ◌+◌, ◌-◌, ◌<◌, ◌≤◌, false, List, [], ◌∷◌, ◌++◌, length, get_or, set, take, drop, Ok, Err, sym, refl, ap, ◌∙◌, append_assoc, arith, length-drop, drop-drop}
+use Rattle.std.proofs.lemmas.List.{drop-set-lt, get_or-drop, get_or_append_left}
 use Rattle.wire.specs.declared.kind.Kind.{Kind}
 use Rattle.wire.specs.declared.kind.Kind.TheVariants.{Sign}
 use Rattle.wire.specs.declared.refusal.Refusal.{Refusal}
@@ -57,6 +57,11 @@ behind_scans : (earlier : List Row) (at : ℕ) (k : Kind) (body : List ℕ) (r :
     ≡ map_ok (scan_of (earlier ++ (row_of (code_of k) (slot_of k (get_or body 0 0)) at (lead k + length body) ∷ [])) (at + (lead k + length body))) r
 behind_scans earlier at k body (Ok c) = ap Ok (behind_scan earlier at k body c)
 behind_scans earlier at k body (Err f) = refl
+
+-- the rows behind one that is set are as they were
+pub others_set : (i : ℕ) (table before : List Row) (row : Row) → drop i table ≡ drop i before → drop (i + 1) (set table i row) ≡ drop (i + 1) before
+others_set i table before row e =
+    drop-set-lt (i + 1) table i row (omega arith) ∙ (sym (drop-drop 1 i table) ∙ (ap (drop 1) e ∙ drop-drop 1 i before))
 
 -- the table so far, and what is left of the chain
 module _ (m : List ℕ) (table : List Row) (i naming at : ℕ) where

@@ -2,9 +2,9 @@
 use Rattle.std.specs.Prelude.{◌≡◌, ℕ, ◌+◌, ◌≤◌, List, [], ◌++◌, length, take, drop, Ok, Err, slice_index}
 use Rattle.wire.specs.declared.kind.Kind.{Kind}
 use Rattle.wire.specs.declared.row.Row.{Row}
-use Rattle.wire.specs.Messages.{Message, with_sign, sign_body}
+use Rattle.wire.specs.Messages.{with_sign, sign_body}
 use Rattle.wire.specs.Kinds.{code_of}
-use Rattle.wire.specs.Rows.{rows_from, rows, sizes, slot_of}
+use Rattle.wire.specs.Rows.{rows_from, sizes, slot_of}
 use Rattle.wire.specs.Answers.{Answer, map_ok}
 use Rattle.wire.specs.Walking.{Chain, chain}
 use Rattle.walk.specs.declared.chain.Links.{Links}
@@ -40,11 +40,6 @@ pub record Inside (n : ℕ) (l : Links) : Type 0 where
   pub few : l.count ≤ 24
   pub some : l.sign + 2 ≤ l.end
   pub fits : l.end ≤ n
-
--- the same of a whole message
-abbrev pub HoldsRows : Answer Message → List Row → Type 0
-HoldsRows (Ok m) table = take (length (rows m)) table ≡ rows m
-HoldsRows (Err f) table = Unit {0}
 
 -- what is found of a payload of this kind at `at`, which lies inside the message
 pub record Tells (m : List ℕ) (k : Kind) (at : ℕ) (f : Found) : Type 0 where

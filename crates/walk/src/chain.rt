@@ -107,6 +107,8 @@ pub(crate) fn chain(
     requires { (10 ≤ from) × ((from ≤ length message.now) × (length message.now ≤ 8192)) }
     ensures answer { result ≡ map_ok links_of (scanning message.now from) }
     ensures rows { Holds (scanning message.now from) table.new }
+    // The rows after them are as they were.
+    ensures others { IfOk result (λ l. drop l.count table.new ≡ drop l.count table.old) }
     ensures within { IfOk result (Inside (length message.now)) }
 {
     // Byte 2 of the header names the first payload.

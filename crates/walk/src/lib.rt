@@ -5,15 +5,15 @@ mod chain;
 mod clock;
 mod header;
 mod part;
-mod scan;
+mod prefix;
 mod table;
 
 ghost use Rattle.walk.specs.Walks.{Walks};
 
 pub use clock::time;
-pub use part::{Part, lookup};
-use scan::scan;
-use table::fill;
+pub use part::{Part, first_in_slot, lookup};
+pub use prefix::{WalkedPrefix, walk_prefix};
+pub use table::walk_table;
 use wire::{MOST_PAYLOADS, Refusal, Row, Walked};
 
 // Tells the payloads of a message in the first 24 rows, blank after the last, and three numbers.
@@ -25,7 +25,7 @@ pub fn walk(message: &[u8], rows: &mut [Row]) -> Result<Walked, Refusal>
         return Err(Refusal::FewRows);
     }
     let mut table = [Row::BLANK; MOST_PAYLOADS];
-    let walked = scan(message, &mut table)?;
-    fill(rows, &table, walked.count);
+    let walked = walk_table(message, &mut table)?;
+    rows[..MOST_PAYLOADS].copy_from_slice(&table);
     Ok(walked)
 }

@@ -1,7 +1,10 @@
-// The bytes of a payload, as a part of the caller's own message.
+// Rows of a message, and the bytes of a payload as a part of the caller's own message.
+ghost use Rattle.std.specs.Prelude.{◌≡◌};
+ghost use Rattle.std.specs.Option.{option_map};
+ghost use Rattle.wire.specs.Rows.{first_in_slot};
 ghost use Rattle.walk.specs.Parts.{HandsOut};
 
-use wire::{Refusal, Row};
+use wire::{Refusal, Row, Slot};
 
 // Some bytes of a message, and where they begin.
 #[derive(Clone, Copy)]
@@ -18,4 +21,11 @@ pub fn lookup<'a>(message: &'a [u8], row: &Row) -> Result<Part<'a>, Refusal>
     let place = range.start;
     let bytes = message.get(range).ok_or(Refusal::RowOutside)?;
     Ok(Part { bytes, place })
+}
+
+/// The first row of a payload in a slot.
+pub fn first_in_slot<'a>(rows: &'a [Row], slot: Slot) -> Option<&'a Row>
+    ensures { option_map (λ r. r.now) result ≡ first_in_slot slot rows.now }
+{
+    rows.iter().find(|row| row.slot == slot.number())
 }

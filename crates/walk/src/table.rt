@@ -1,14 +1,22 @@
-// The caller's rows.
-ghost use Rattle.std.specs.Prelude.{◌≡◌, ◌-◌, ◌≤◌, ◌++◌, length, take, drop, replicate};
-ghost use Rattle.wire.specs.Rows.{blank};
+// A whole message: one that bytes begin with, and nothing after it.
+ghost use Rattle.walk.specs.Tables.{WalksTable};
 
-use wire::{MOST_PAYLOADS, Row};
+use crate::prefix::prefix;
+use wire::{LONGEST, MOST_PAYLOADS, Refusal, Row, Walked};
 
-// There is no heap, so that a table is an array and a count. The first `count` rows of the table, then blank ones up to the 24th.
-pub(crate) fn fill(rows: &mut [Row], table: &[Row; MOST_PAYLOADS], count: usize)
-    requires { (count ≤ 24) × (24 ≤ length rows.old) }
-    ensures { rows.new ≡ take count table.now ++ (replicate (24 - count) blank ++ drop 24 rows.old) }
+/// Tells the payloads of a message, as walk does, for a caller who has a table of its own.
+///
+/// Its rows after the last payload stay. Where the message is refused, what the table holds says
+/// nothing.
+pub fn walk_table(message: &[u8], table: &mut [Row; MOST_PAYLOADS]) -> Result<Walked, Refusal>
+    ensures { WalksTable message.now table.old result table.new }
 {
-    rows[..count].copy_from_slice(&table[..count]);
-    rows[count..MOST_PAYLOADS].fill(Row::BLANK);
+    if message.len() > LONGEST {
+        return Err(Refusal::TooLong);
+    }
+    let found = prefix(message, table)?;
+    if found.end < message.len() {
+        return Err(Refusal::BytesLeft(found.end));
+    }
+    Ok(found.walked)
 }

@@ -6,4 +6,6 @@ mod build;
 #[cfg(test)]
 mod numbers;
 #[cfg(test)]
+mod prefixes;
+#[cfg(test)]
 mod tests;

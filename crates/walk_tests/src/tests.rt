@@ -4,7 +4,7 @@ use walk::{lookup, time, walk};
 use wire::{Kind, Refusal, Row, Slot, Walked};
 
 // A row that no walk writes.
-const OLD: Row = Row {
+pub(crate) const OLD: Row = Row {
     code: 9,
     slot: 9,
     start: 9,
@@ -12,7 +12,7 @@ const OLD: Row = Row {
 };
 
 // The row of a SIGN whose signature is one byte.
-fn sign_at(start: u32) -> Row {
+pub(crate) fn sign_at(start: u32) -> Row {
     Row {
         code: Kind::Sign.code(),
         slot: Slot::Sign.number(),

@@ -1,5 +1,5 @@
 -- The laws of whole messages.
-use Rattle.std.proofs.Common.{◌≡◌, ℕ, ◌+◌, ◌≤◌, true, ◌&&◌, eqb, ltb, leb, List, [], ◌∷◌, ◌++◌, length, get_or, take, drop, Ok, sym, refl, ap, ◌∙◌, subst, ap₂, inl, inr, append_assoc, append-nil, arith, drop-drop, take_at, drop_at}
+use Rattle.std.proofs.Common.{◌≡◌, ℕ, ◌+◌, ◌≤◌, true, ◌&&◌, eqb, ltb, leb, List, [], ◌∷◌, ◌++◌, length, get_or, take, drop, Ok, sym, refl, ap, ◌∙◌, subst, ap₂, inl, inr, append_assoc, append-nil, arith, length-append, drop-drop, take_at, drop_at}
 use Rattle.std.proofs.ByRecursion.{All-drop}
 use Rattle.std.proofs.lemmas.List.{nil_from_length, length_push}
 use Rattle.std.proofs.lemmas.Bool.{leb-true, le-leb, lt-ltb, ltb-true, eqb-true, and_parts, and_from, or_cases}
@@ -10,8 +10,8 @@ use Rattle.wire.specs.Layouts.{Map, Sessions}
 use Rattle.wire.specs.Layouts.Map.{empty, generic}
 use Rattle.wire.specs.Layouts.Sessions.{none, more}
 use Rattle.wire.specs.Lawful.{Lawful}
-use Rattle.wire.specs.Walking.{map_fits, sessions, Chain, chain, heading, header_of, message_of, walking}
-use Rattle.wire.proofs.Answers.{check_ok, and_then_ok, same_ok}
+use Rattle.wire.specs.Walking.{map_fits, sessions, Chain, chain, heading, header_of, message_of, Prefix, prefix_of, walking_prefix, walking}
+use Rattle.wire.proofs.Answers.{check_ok, and_then_ok, found, same_ok}
 use Rattle.wire.proofs.Numbers.{firsts, firsts_rest, octet_at, octets_front, value_in_bytes, value_fits, value_back}
 use Rattle.wire.proofs.Sessions.{sessions_there, sessions_back}
 use Rattle.wire.proofs.Chains.{chain_there, chain_back}
@@ -47,23 +47,36 @@ map_drawn cs type info e s =
 pub pieces_count : (m : Message) → length (pieces m) ≡ length m.payloads + 1
 pieces_count m = length_push m.payloads (record { kind = Sign; body = sign_body m.sign_type m.signature })
 
--- what is encoded lawfully is read back
-pub read_back : (m : Message) → Lawful m → walking (encode m) ≡ Ok m
-read_back m l =
+regrouped : (a b c d : List ℕ) → ((a ++ b) ++ c) ++ d ≡ a ++ (b ++ (c ++ d))
+regrouped a b c d = simp append_assoc
+
+-- a lawful message is found at the front of bytes that begin with its encoding
+pub prefix_there : (m : Message) (after : List ℕ) → Lawful m
+    → walking_prefix (encode m ++ after) ≡ Ok (record { message = m; after = after })
+prefix_there m after l =
     let h : Header = m.header in
     let info : List ℕ = h.map_info in
     let sign : List ℕ = sign_body m.sign_type m.signature in
-    let tail : List ℕ = payloads_bytes 4 m.payloads ++ sign in
-    let bs : List ℕ = header_bytes (first 4 m.payloads) h ++ tail in
-    let is : encode m ≡ bs = append_assoc (header_bytes (first 4 m.payloads) h) (payloads_bytes 4 m.payloads) sign in
-    let most : leb (length bs) 8192 ≡ true = le-leb _ _ (subst (λ x. length x ≤ 8192) is l.size) in
+    let ps : List ℕ = payloads_bytes 4 m.payloads in
+    let tail : List ℕ = ps ++ (sign ++ after) in
+    let head : List ℕ = header_bytes (first 4 m.payloads) h in
+    let bs : List ℕ = head ++ tail in
+    let is : encode m ++ after ≡ bs = regrouped head ps sign after in
     let least : leb 10 (length bs) ≡ true = le-leb _ _ (omega arith) in
     let map : map_fits h.cs h.map_type ≡ true = map_fits_lem l.header.map in
     let found : sessions h.cs 10 (info ++ tail) ≡ Ok info = sessions_there (map_sessions l.header.map) 10 tail in
-    let rest : drop (10 + length info) bs ≡ payloads_bytes 4 m.payloads ++ (sign ++ []) =
-    sym (drop-drop (length info) 10 bs) ∙ drop_at info tail (length info) refl ∙ ap (λ x. payloads_bytes 4 m.payloads ++ x) (sym (append-nil sign)) in
-    let c = chain_there m.payloads 24 2 (10 + length info) m.sign_type m.signature [] l.payloads l.sign (omega (arith, l.count, pieces_count m)) in
-    ap walking is ∙ rw (most, least, map, found, rest, c, value_back 3 h.csb [])
+    let rest : drop (10 + length info) bs ≡ tail =
+    sym (drop-drop (length info) 10 bs) ∙ drop_at info tail (length info) refl in
+    let c = chain_there m.payloads 24 2 (10 + length info) m.sign_type m.signature after l.payloads l.sign (omega (arith, l.count, pieces_count m)) in
+    ap walking_prefix is ∙ rw (least, map, found, rest, c, value_back 3 h.csb [])
+
+-- what is encoded lawfully is read back
+pub read_back : (m : Message) → Lawful m → walking (encode m) ≡ Ok m
+read_back m l =
+    let most : leb (length (encode m)) 8192 ≡ true = le-leb _ _ l.size in
+    let found : walking_prefix (encode m) ≡ Ok (record { message = m; after = [] }) =
+    ap walking_prefix (sym (append-nil (encode m))) ∙ prefix_there m [] l in
+    rw (most, found)
 
 -- a header is read back from its own bytes
 pub header_back : (next : ℕ) (h : Header) (rest : List ℕ) (n : ℕ) → n ≡ length h.map_info
@@ -85,42 +98,53 @@ header_is bs info rest next y h v d n e =
     ap (λ x. 1 ∷ 26 ∷ next ∷ get_or bs 3 0 ∷ (x ++ (get_or bs 8 0 ∷ get_or bs 9 0 ∷ info))) c in
     ap (λ x. x ++ rest) p ∙ rw (← v, ← d, ← n, ← e) (sym s)
 
--- what is accepted is the encoding of a lawful message
-pub only_lawful : (bs : List ℕ) (m : Message) → Octets bs → walking bs ≡ Ok m → (encode m ≡ bs) × Lawful m
-only_lawful bs m y is =
-    let c1 = check_ok (leb (length bs) 8192) _ _ m is in
-    let s = and_then_ok (heading bs) _ m c1.1 in
+-- what is found at the front of bytes is a lawful message, and its encoding stands there
+pub prefix_back : (bs : List ℕ) (p : Prefix) → Octets bs → length bs ≤ 8192 → walking_prefix bs ≡ Ok p
+    → (encode p.message ++ p.after ≡ bs) × Lawful p.message
+prefix_back bs p y short is =
+    let s = and_then_ok (heading bs) _ p is in
     let info : List ℕ = s.0 in
     let c2 = check_ok (leb 10 (length bs)) _ _ info s.1 in
     let c3 = check_ok (eqb (get_or bs 0 0) 1) _ _ info c2.1 in
     let c4 = check_ok (eqb (get_or bs 1 0) 26) _ _ info c3.1 in
     let c5 = check_ok (map_fits (get_or bs 8 0) (get_or bs 9 0)) _ _ info c4.1 in
-    let w = and_then_ok (chain 24 (get_or bs 2 0) 2 (10 + length info) (drop (10 + length info) bs)) _ m s.2 in
+    let h : Header = header_of bs info in
+    let w = found (chain 24 (get_or bs 2 0) 2 (10 + length info) (drop (10 + length info) bs)) (prefix_of h) p (sym s.2) in
     let c : Chain = w.0 in
-    let l = check_ok (leb (length c.after) 0) _ _ m w.2 in
-    let found = sessions_back (get_or bs 8 0) 10 (drop 10 bs) info (All-drop _ 10 bs y) c5.1 in
+    let maps = sessions_back (get_or bs 8 0) 10 (drop 10 bs) info (All-drop _ 10 bs y) c5.1 in
     let back = chain_back 24 (get_or bs 2 0) 2 (10 + length info) (drop (10 + length info) bs) c (All-drop _ (10 + length info) bs y) w.1 in
-    let none : c.after ≡ [] = nil_from_length c.after (omega (arith, leb-true (length c.after) 0 l.0)) in
     let sign : List ℕ = sign_body c.sign_type c.signature in
     let ps : List ℕ = payloads_bytes 4 c.payloads in
-    let tail : drop 10 bs ≡ info ++ (ps ++ sign) =
-    found.rest ∙ ap (λ x. info ++ x) (drop-drop (length info) 10 bs ∙ sym back.is ∙ ap (λ x. ps ++ x) (ap (λ x. sign ++ x) none ∙ append-nil sign)) in
-    let h : Header = header_of bs info in
-    let same : encode (message_of h c) ≡ bs =
-    append_assoc (header_bytes (first 4 c.payloads) h) ps sign
-    ∙ header_is bs info (ps ++ sign) (first 4 c.payloads) y (leb-true _ _ c2.0) (eqb-true _ _ c3.0) (eqb-true _ _ c4.0) back.named tail in
-    subst (λ x. (encode x ≡ bs) × Lawful x) (same_ok (message_of h c) m l.1) (
+    let head : List ℕ = header_bytes (first 4 c.payloads) h in
+    let tail : drop 10 bs ≡ info ++ (ps ++ (sign ++ c.after)) =
+    maps.rest ∙ ap (λ x. info ++ x) (drop-drop (length info) 10 bs ∙ sym back.is) in
+    let same : encode (message_of h c) ++ c.after ≡ bs =
+    regrouped head ps sign c.after
+    ∙ header_is bs info (ps ++ (sign ++ c.after)) (first 4 c.payloads) y (leb-true _ _ c2.0) (eqb-true _ _ c3.0) (eqb-true _ _ c4.0) back.named tail in
+    subst (λ x. (encode x.message ++ x.after ≡ bs) × Lawful x.message) w.2 (
       same,
       record {
         header = record {
           byte3 = octet_at bs 3 y;
           csb = value_fits 4 4 bs y;
-          map = map_drawn (get_or bs 8 0) (get_or bs 9 0) info c5.0 found.drawn;
-          octets = octets_front (drop 10 bs) info _ (All-drop _ 10 bs y) found.rest;
+          map = map_drawn (get_or bs 8 0) (get_or bs 9 0) info c5.0 maps.drawn;
+          octets = octets_front (drop 10 bs) info _ (All-drop _ 10 bs y) maps.rest;
         };
         payloads = back.payloads;
         sign = back.sign;
         count = omega (arith, back.count, pieces_count (message_of h c));
-        size = subst (λ x. length x ≤ 8192) (sym same) (leb-true _ _ c1.0);
+        size = omega (arith, ap length same, length-append (encode (message_of h c)) c.after);
       },
     )
+
+-- what is accepted is the encoding of a lawful message
+pub only_lawful : (bs : List ℕ) (m : Message) → Octets bs → walking bs ≡ Ok m → (encode m ≡ bs) × Lawful m
+only_lawful bs m y is =
+    let c = check_ok (leb (length bs) 8192) _ _ m is in
+    let a = and_then_ok (walking_prefix bs) _ m c.1 in
+    let p : Prefix = a.0 in
+    let l = check_ok (leb (length p.after) 0) _ _ m a.2 in
+    let b = prefix_back bs p y (leb-true _ _ c.0) a.1 in
+    let none : p.after ≡ [] = nil_from_length p.after (omega (arith, leb-true (length p.after) 0 l.0)) in
+    let same : encode p.message ≡ bs = sym (append-nil (encode p.message)) ∙ ap (λ x. encode p.message ++ x) (sym none) ∙ b.0 in
+    subst (λ x. (encode x ≡ bs) × Lawful x) (same_ok p.message m l.1) (same, b.1)

@@ -1,10 +1,13 @@
 -- Slots, and the rows and numbers that are told of a message.
-use Rattle.std.specs.Prelude.{◌≡◌, ℕ, ◌+◌, ◌-◌, cond, List, [], ◌∷◌, ◌++◌, length, take, drop, replicate, ◌==◌, slice_index}
+use Rattle.std.specs.Prelude.{◌≡◌, ℕ, ◌+◌, ◌-◌, cond, List, [], ◌∷◌, ◌++◌, length, take, drop, replicate, Option, ◌==◌, slice_index}
+use Rattle.std.specs.List.{find}
 use Rattle.wire.specs.declared.kind.Kind.{Kind}
 use Rattle.wire.specs.declared.kind.Kind.TheVariants.{T, Rand, Idr, Sp, Sakke, Ext, Sign}
 use Rattle.wire.specs.declared.row.Row.{Row}
+use Rattle.wire.specs.declared.slot.Slot.{Slot}
 use Rattle.wire.specs.declared.row.Walked.{Walked}
 use Rattle.wire.specs.Kinds.{code_of, lead}
+use Rattle.wire.specs.Numbered.{slot_number}
 use Rattle.wire.specs.Messages.{Payload, Message, first, pieces, span}
 
 -- a role of an IDR or a type of an EXT, and its slot; any other is in slot 12
@@ -37,6 +40,10 @@ slot_of Sign v = 11
 
 abbrev pub slot : Payload → ℕ
 slot p = slot_of p.kind (slice_index p.body 0)
+
+-- the first row in a slot
+abbrev pub first_in_slot : Slot → List Row → Option Row
+first_in_slot s rows = find (λ r. r.slot == slot_number s) rows
 
 -- with the next-payload byte, if there is one
 abbrev pub size : Payload → ℕ

@@ -6,7 +6,7 @@ use Rattle.wire.specs.declared.refusal.Refusal.TheVariants.{FewRows, TooLong, To
 use Rattle.wire.specs.Octets.{value_at}
 use Rattle.wire.specs.Kinds.{kind_of, is_sign, lead}
 use Rattle.wire.specs.Messages.{Header, Payload, Message}
-use Rattle.wire.specs.Answers.{Answer, check, and_then}
+use Rattle.wire.specs.Answers.{Answer, check, and_then, map_ok}
 use Rattle.wire.specs.Extents.{body_at, session_at}
 
 -- #CS goes with the map type
@@ -65,14 +65,28 @@ header_of bs info = record { byte3 = slice_index bs 3; csb = value_at 4 4 bs; cs
 abbrev pub message_of : Header → Chain → Message
 message_of h c = record { header = h; payloads = c.payloads; sign_type = c.sign_type; signature = c.signature }
 
+-- a message at the front of bytes, and what lies after it
+pub record Prefix : Type 0 where
+  pub message : Message
+  pub after : List ℕ
+
+abbrev pub prefix_of : Header → Chain → Prefix
+prefix_of h c = record { message = message_of h c; after = c.after }
+
+-- the message that bytes begin with, up to its SIGN
+abbrev pub walking_prefix : List ℕ → Answer Prefix
+walking_prefix bs =
+    and_then (heading bs) (λ info.
+    let at : ℕ = 10 + length info in
+    map_ok (prefix_of (header_of bs info)) (chain 24 (slice_index bs 2) 2 at (drop at bs)))
+
+-- a whole message: nothing lies after it
 abbrev pub walking : List ℕ → Answer Message
 walking bs =
     check (nat_le (length bs) 8192) TooLong
-    (and_then (heading bs) (λ info.
-    let at : ℕ = 10 + length info in
-    and_then (chain 24 (slice_index bs 2) 2 at (drop at bs)) (λ c.
-    check (nat_le (length c.after) 0) (BytesLeft (length bs - length c.after))
-    (Ok (message_of (header_of bs info) c)))))
+    (and_then (walking_prefix bs) (λ p.
+    check (nat_le (length p.after) 0) (BytesLeft (length bs - length p.after))
+    (Ok p.message)))
 
 -- the same for a caller who lends so many rows
 abbrev pub walking_into : ℕ → List ℕ → Answer Message

@@ -11,7 +11,7 @@ mod row;
 mod slot;
 mod words;
 
-pub use bytes::byte_at;
+pub use bytes::{byte_at, bytes_at, bytes_from};
 pub use field::Field;
 pub use kind::Kind;
 pub use limits::{LONGEST, MOST_PAYLOADS, SAKKE_MESSAGE, VERSION};

@@ -8,7 +8,7 @@ use Rattle.wire.specs.Kinds.{code_of}
 use Rattle.wire.specs.Rows.{slot_of}
 use Rattle.wire.specs.Walking.{kind_at}
 use Rattle.wire.proofs.Codes.{not_sign}
-use Rattle.walk.proofs.Scanning.{PayloadLength, row_of, kind_refused, one_too_many, payload_refused, next_row, sign_row}
+use Rattle.walk.proofs.Scanning.{PayloadLength, row_of, others_set, kind_refused, one_too_many, payload_refused, next_row, sign_row}
 use Rattle.walk.proofs.chain.chain.Goals as goal
 
 pub returns-in_err-kind : goal.returns-in_err-kind
@@ -39,6 +39,7 @@ returns-then-eq c =
     let is : row ≡ row_of 4 11 l.at n = rw (told.code, told.slot, s) in
     let e = sign_row m l.table l.i l.naming l.at n _ (omega arith) k r is ∙ l.invariant.left in
     let more = take_more_set l.table l.i row (omega arith) in
+    let others = others_set l.i l.table c.args.table.now row l.invariant.others in
     let long = length_push (take l.i l.table) row in
     let short = length-take-le l.i l.table (omega arith) in
     search rules
@@ -56,6 +57,7 @@ loop-i-preserved c =
     let next = next_row m l.table l.i l.naming l.at (omega arith) k c.in_ok-kind.ensures n row
     (not_sign k (same_false the_type _ _ (sym c.if-eq.ensures))) c.in_ok-found.ensures.answer is ∙ l.invariant.left in
     let more = take_more_set l.table l.i row (omega arith) in
+    let others = others_set l.i l.table c.args.table.now row l.invariant.others in
     search rules
 
 pub returns-in_err-kind_of : goal.returns-in_err-kind_of

@@ -9,6 +9,7 @@ invariant-loop-i l = record {
   named : l.naming < length l.message;
   inside : l.at ≤ length l.message;
   long : length l.table ≡ 24;
+  others : drop l.i l.table ≡ drop l.i l.initial.table;
   left : map_ok (scan_of (take l.i l.table) l.at) (chain (24 - l.i) (get_or l.message l.naming 0) l.naming l.at (drop l.at l.message))
       ≡ scanning l.message l.from;
 }
