@@ -4,6 +4,8 @@ ghost use Rattle.std.specs.Option.{is_some};
 ghost use Rattle.wire.specs.Octets.{in_bytes};
 ghost use Rattle.plain.specs.Steps.{sign_fits};
 
+use wire::LONGEST_SIGNATURE;
+
 // An S type in four bits, and a signature of 1 to 4,095 bytes.
 #[derive(Clone, Copy)]
 pub(crate) struct Form {
@@ -19,7 +21,7 @@ impl Form {
         ensures fits { is_some result ≡ sign_fits sign_type size }
         ensures is { IfSome result (λ form. (form.sign_type ≡ sign_type) × (form.size ≡ size)) }
     {
-        if sign_type <= 15 && size >= 1 && size <= 4095 {
+        if sign_type <= 15 && size >= 1 && size <= LONGEST_SIGNATURE {
             Some(Form { sign_type, size })
         } else {
             None

@@ -1,14 +1,15 @@
 -- What a profile admits.
 use Rattle.std.specs.Prelude.{◌≡◌, ℕ, ◌+◌, ◌≤◌, true, cond, List, [], ◌∷◌, map, ◌==◌}
 use Rattle.std.specs.List.{AllByRecursion, range_with_len}
+use Rattle.wire.specs.Limits.{last_slot}
 use Rattle.wire.specs.Messages.{Payload, Message, pieces}
 use Rattle.wire.specs.Rows.{slot}
 use Rattle.profile.specs.Tables.{Tables}
 use Rattle.profile.specs.Fields.{Field, header_fields, fields}
 
--- the slots there are, 1 to 12
+-- the slots there are
 abbrev pub slots : List ℕ
-slots = range_with_len 1 12
+slots = range_with_len 1 last_slot
 
 -- how many are n
 abbrev pub count : ℕ → List ℕ → ℕ

@@ -123,7 +123,7 @@ impl<P: Profile> Admission<'_, P> {
         requires { Counting (slots_in self.now.rows.now) counts.now.by_slot }
         ensures { result ≡ sufficing (P.tables self.now.profile.now) (length self.now.message.now) self.now.rows.now slots }
     {
-        for slot in Slot::T.number()..=Slot::Other.number() {
+        for slot in Slot::T.number()..=Slot::LAST.number() {
             self.suffice(slot, counts)?;
         }
         Ok(())

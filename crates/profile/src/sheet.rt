@@ -83,7 +83,7 @@ impl Line {
         ensures { result ≡ bounded above self }
     {
         above < self.slot
-            && self.slot <= Slot::Other.number()
+            && self.slot <= Slot::LAST.number()
             && self.entry.bounds.least <= self.entry.bounds.most
             && self.entry.bounds.most <= 24
             && self.entry.rank <= 24

@@ -1,7 +1,8 @@
 -- What a verifier is shown: a signer, a span and a signature.
 use Rattle.std.specs.Prelude.{ℕ, cond, List, [], ◌∷◌, drop, ◌==◌}
 use Rattle.wire.specs.Messages.{Payload, Message, span}
-use Rattle.wire.specs.Rows.{slot}
+use Rattle.wire.specs.Numbered.{slot_number}
+use Rattle.wire.specs.Rows.{slot, signer_slot}
 
 pub record Signed : Type 0 where
   pub signer : List ℕ
@@ -14,7 +15,8 @@ signed signer span signature = record { signer = signer; span = span; signature 
 -- the ID data of the first IDR of role 1, which is slot 3, behind ID role, ID type and ID len; no bytes if there is none
 abbrev pub signer_of : List Payload → List ℕ
 signer_of [] = []
-signer_of (p ∷ ps) = cond (slot p == 3) (drop 4 p.body) (signer_of ps)
+signer_of (p ∷ ps) =
+    cond (slot p == slot_number signer_slot) (drop 4 p.body) (signer_of ps)
 
 abbrev pub signed_in : Message → Signed
 signed_in m = signed (signer_of m.payloads) (span m) m.signature

@@ -1,6 +1,7 @@
 -- What is told of the message that bytes begin with, in a table of 24 rows.
 use Rattle.std.specs.Prelude.{◌≡◌, ℕ, ◌≤◌, List, ◌++◌, length, take, drop, Ok, Err}
 use Rattle.wire.specs.declared.row.Row.{Row}
+use Rattle.wire.specs.Limits.{longest_message}
 use Rattle.wire.specs.Messages.{Message, encode, pieces}
 use Rattle.wire.specs.Lawful.{Lawful}
 use Rattle.wire.specs.Rows.{rows, walked_of, Tile, MarksOff}
@@ -10,7 +11,7 @@ use Rattle.walk.specs.declared.prefix.WalkedPrefix.{WalkedPrefix}
 
 -- the bytes that count: no message is longer
 abbrev pub window : List ℕ → List ℕ
-window bytes = take 8192 bytes
+window bytes = take longest_message bytes
 
 abbrev pub walked_prefix : Message → WalkedPrefix
 walked_prefix m = record { walked = walked_of m; end = length (encode m) }

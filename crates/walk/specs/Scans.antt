@@ -4,6 +4,7 @@ use Rattle.wire.specs.declared.kind.Kind.{Kind}
 use Rattle.wire.specs.declared.row.Row.{Row}
 use Rattle.wire.specs.Messages.{with_sign, sign_body}
 use Rattle.wire.specs.Kinds.{code_of}
+use Rattle.wire.specs.Limits.{most_payloads}
 use Rattle.wire.specs.Rows.{rows_from, sizes, slot_of}
 use Rattle.wire.specs.Answers.{Answer, map_ok}
 use Rattle.wire.specs.Walking.{Chain, chain}
@@ -25,7 +26,7 @@ scan_of earlier at c = record {
 }
 
 abbrev pub scanning : List ℕ → ℕ → Answer Scan
-scanning m at = map_ok (scan_of [] at) (chain 24 (slice_index m 2) 2 at (drop at m))
+scanning m at = map_ok (scan_of [] at) (chain most_payloads (slice_index m 2) 2 at (drop at m))
 
 abbrev pub links_of : Scan → Links
 links_of s = record { count = length s.rows; sign = s.sign; end = s.end }
@@ -37,7 +38,7 @@ Holds (Err f) table = Unit {0}
 
 -- SIGN lies inside a message of n bytes
 pub record Inside (n : ℕ) (l : Links) : Type 0 where
-  pub few : l.count ≤ 24
+  pub few : l.count ≤ most_payloads
   pub some : l.sign + 2 ≤ l.end
   pub fits : l.end ≤ n
 

@@ -2,12 +2,13 @@
 use Rattle.std.specs.Prelude.{◌≡◌, ℕ, List, ◌++◌, take, drop, replicate, IfOk}
 use Rattle.wire.specs.declared.row.Row.{Row}
 use Rattle.wire.specs.declared.row.Walked.{Walked}
+use Rattle.wire.specs.Limits.{most_payloads}
 use Rattle.wire.specs.Rows.{blank}
 use Rattle.wire.specs.Answers.{Answer}
 use Rattle.walk.specs.Walks.{Walks}
 
 abbrev pub blanks : List Row
-blanks = replicate 24 blank
+blanks = replicate most_payloads blank
 
 -- it is walked as into blank rows; those of the table after the last payload stay. Where it is
 -- refused, the rows say nothing

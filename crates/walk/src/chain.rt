@@ -2,6 +2,7 @@
 ghost use Rattle.std.specs.Prelude.{◌≡◌, ◌+◌, ◌≤◌, length, drop, IfOk};
 ghost use Rattle.wire.specs.Answers.{map_ok};
 ghost use Rattle.wire.specs.Kinds.{lead};
+ghost use Rattle.wire.specs.Limits.{fixed_header, longest_message};
 ghost use Rattle.wire.specs.Numbered.{slot_number};
 ghost use Rattle.wire.specs.Rows.{slot_of};
 ghost use Rattle.wire.specs.Extents.{body_at};
@@ -104,7 +105,8 @@ pub(crate) fn chain(
     from: usize,
     table: &mut [Row; MOST_PAYLOADS],
 ) -> Result<Links, Refusal>
-    requires { (10 ≤ from) × ((from ≤ length message.now) × (length message.now ≤ 8192)) }
+    requires { (fixed_header ≤ from) × ((from ≤ length message.now)
+        × (length message.now ≤ longest_message)) }
     ensures answer { result ≡ map_ok links_of (scanning message.now from) }
     ensures rows { Holds (scanning message.now from) table.new }
     // The rows after them are as they were.

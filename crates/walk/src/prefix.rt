@@ -1,6 +1,7 @@
 // The message that bytes begin with: its header, and its payloads up to SIGN.
 ghost use Rattle.std.specs.Prelude.{◌≡◌, ◌≤◌, length};
 ghost use Rattle.wire.specs.Answers.{map_ok};
+ghost use Rattle.wire.specs.Limits.{longest_message};
 ghost use Rattle.wire.specs.Walking.{walking_prefix};
 ghost use Rattle.walk.specs.Prefixes.{window, walked_prefix_of, Entered, WalksPrefix};
 
@@ -20,7 +21,7 @@ pub(crate) fn prefix(
     window: &[u8],
     table: &mut [Row; MOST_PAYLOADS],
 ) -> Result<WalkedPrefix, Refusal>
-    requires { length window.now ≤ 8192 }
+    requires { length window.now ≤ longest_message }
     ensures answer { result ≡ map_ok walked_prefix_of (walking_prefix window.now) }
     ensures rows { Entered (walking_prefix window.now) table.old table.new }
 {
@@ -39,7 +40,7 @@ pub(crate) fn prefix(
 // The bytes that count.
 fn window(bytes: &[u8]) -> &[u8]
     ensures is { result.now ≡ window bytes.now }
-    ensures short { length result.now ≤ 8192 }
+    ensures short { length result.now ≤ longest_message }
 {
     if bytes.len() < LONGEST {
         return bytes;

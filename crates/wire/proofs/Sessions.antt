@@ -23,7 +23,7 @@ data_long n f (short ssrc l) e g = let q : n ≡ 4 = omega arith in rw (q, g)
 data_long n f (long ssrc roc seq l m k) e g =
     let q : n ≡ 10 = omega (arith, length-append ssrc (roc ++ seq), length-append roc seq) in rw (q, g)
 
-session_whole : {s : List ℕ} → Session s → Whole session_extent session_inside s
+pub session_whole : {s : List ℕ} → Session s → Whole session_extent session_inside s
 session_whole (session id f policies d spi small few drawn) =
     let front : List ℕ = id ∷ 0 ∷ (f * 128 + length policies) ∷ policies in
     let rest : List ℕ = sized d ++ (length spi ∷ spi) in

@@ -2,6 +2,7 @@
 use Rattle.std.specs.Prelude.{◌≡◌, ℕ, ◌^◌, ◌<◌, ◌≤◌, false, List, length}
 use Rattle.std.specs.List.{AllByRecursion}
 use Rattle.wire.specs.Octets.{Octets}
+use Rattle.wire.specs.Limits.{most_payloads, longest_message, longest_signature}
 use Rattle.wire.specs.Kinds.{is_sign}
 use Rattle.wire.specs.Messages.{Header, Payload, Message, encode, pieces}
 use Rattle.wire.specs.Layouts.{Body, Map}
@@ -20,12 +21,12 @@ pub record LawfulPayload (p : Payload) : Type 0 where
 pub record LawfulSign (type : ℕ) (signature : List ℕ) : Type 0 where
   pub small : type < 16
   pub least : 0 < length signature
-  pub most : length signature < 4096
+  pub most : length signature ≤ longest_signature
   pub octets : Octets signature
 
 pub record Lawful (m : Message) : Type 0 where
   pub header : LawfulHeader m.header
   pub payloads : AllByRecursion LawfulPayload m.payloads
   pub sign : LawfulSign m.sign_type m.signature
-  pub count : length (pieces m) ≤ 24
-  pub size : length (encode m) ≤ 8192
+  pub count : length (pieces m) ≤ most_payloads
+  pub size : length (encode m) ≤ longest_message

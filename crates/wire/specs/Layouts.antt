@@ -3,12 +3,29 @@ use Rattle.std.specs.Prelude.{◌≡◌, ℕ, zero, suc, ◌+◌, ◌*◌, ◌<�
 use Rattle.wire.specs.declared.kind.Kind.{Kind}
 use Rattle.wire.specs.declared.kind.Kind.TheVariants.{T, Rand, Idr, Sp, Sakke, Ext, Sign}
 use Rattle.wire.specs.Octets.{sized}
+use Rattle.wire.specs.Limits.{longest_signature}
 use Rattle.wire.specs.Messages.{sign_body}
 
 -- whole items of a security policy: type 1, length 1, value
 pub data Items : List ℕ → Type 0 where
   none : Items []
   item : (type : ℕ) (value rest : List ℕ) → Items rest → Items (type ∷ length value ∷ (value ++ rest))
+
+-- RAND len 1, RAND
+abbrev pub rand_body : List ℕ → List ℕ
+rand_body rand = length rand ∷ rand
+
+-- ID role 1, ID type 1, ID len 2, ID data
+abbrev pub idr_body : ℕ → ℕ → List ℕ → List ℕ
+idr_body role type content = role ∷ type ∷ sized content
+
+-- policy number 1, Prot type 1, length 2, policy parameters
+abbrev pub sp_body : ℕ → ℕ → List ℕ → List ℕ
+sp_body policy prot params = policy ∷ prot ∷ sized params
+
+-- type 1, length 2, data
+abbrev pub ext_body : ℕ → List ℕ → List ℕ
+ext_body type content = type ∷ sized content
 
 -- params 1, ID scheme 1, length 2, data
 abbrev pub sakke_body : ℕ → ℕ → List ℕ → List ℕ
@@ -20,13 +37,15 @@ wraps type = type == 6
 
 pub data Body : Kind → List ℕ → Type 0 where
   t : (value : List ℕ) → length value ≡ 8 → Body T (0 ∷ value)
-  rand : (rand : List ℕ) → Body Rand (length rand ∷ rand)
-  idr : (role type : ℕ) (content : List ℕ) → Body Idr (role ∷ type ∷ sized content)
-  sp : (policy prot : ℕ) (params : List ℕ) → Items params → Body Sp (policy ∷ prot ∷ sized params)
+  rand : (rand : List ℕ) → Body Rand (rand_body rand)
+  idr : (role type : ℕ) (content : List ℕ) → Body Idr (idr_body role type content)
+  sp : (policy prot : ℕ) (params : List ℕ) → Items params → Body Sp (sp_body policy prot params)
   sakke : (params scheme : ℕ) (content : List ℕ) → Body Sakke (sakke_body params scheme content)
-  ext : (type : ℕ) (content : List ℕ) → wraps type ≡ false → Body Ext (type ∷ sized content)
-  wrapping : (type next params scheme : ℕ) (content : List ℕ) → wraps type ≡ true → Body Ext (type ∷ sized (next ∷ sakke_body params scheme content))
-  sign : (type : ℕ) (signature : List ℕ) → 0 < length signature → length signature < 4096 → Body Sign (sign_body type signature)
+  ext : (type : ℕ) (content : List ℕ) → wraps type ≡ false → Body Ext (ext_body type content)
+  wrapping : (type next params scheme : ℕ) (content : List ℕ) → wraps type ≡ true
+      → Body Ext (ext_body type (next ∷ sakke_body params scheme content))
+  sign : (type : ℕ) (signature : List ℕ) → 0 < length signature
+      → length signature ≤ longest_signature → Body Sign (sign_body type signature)
 
 -- absent, or SSRC 4, and behind it ROC 4 and SEQ 2 where the S flag is set
 pub data SessionData : ℕ → List ℕ → Type 0 where

@@ -1,5 +1,6 @@
 pub mod Octets
 pub mod Kinds
+pub mod Limits
 pub mod Numbered
 pub mod Refusals
 pub mod Messages

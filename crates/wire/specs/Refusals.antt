@@ -3,13 +3,14 @@ use Rattle.std.specs.Prelude.{ℕ, Bool, true, false}
 use Rattle.wire.specs.declared.refusal.Refusal.{Refusal}
 use Rattle.wire.specs.declared.refusal.Refusal.TheVariants.{FewRows, TooLong, TooShort, Version, DataType, SessionMap, SessionCut, SessionRule, UnknownCode, ExtraPayload, PayloadCut, PayloadRule, BytesLeft, FieldNotTaken, RankFalls, AboveMost, BelowLeast, NotPassed, NoHeader, NoPosition, MapInfoLeft, DraftFull, NoRoom, SignForm, SignatureLength, RowOutside}
 use Rattle.wire.specs.declared.refusal.Told.{Told}
+use Rattle.wire.specs.Limits.{longest_message}
 
 abbrev pub tells : ℕ → ℕ → ℕ → Told
 tells n p d = record { number = n; place = p; detail = d }
 
 abbrev pub told : Refusal → Told
 told FewRows = tells 1 0 0
-told TooLong = tells 2 8192 0
+told TooLong = tells 2 longest_message 0
 told (TooShort length) = tells 3 length 0
 told Version = tells 4 0 0
 told DataType = tells 5 1 0

@@ -4,6 +4,7 @@ use Rattle.std.specs.Option.{ok_or}
 use Rattle.wire.specs.declared.kind.Kind.{Kind}
 use Rattle.wire.specs.declared.refusal.Refusal.TheVariants.{FewRows, TooLong, TooShort, Version, DataType, SessionMap, UnknownCode, ExtraPayload, BytesLeft}
 use Rattle.wire.specs.Octets.{value_at}
+use Rattle.wire.specs.Limits.{most_payloads, longest_message, fixed_header}
 use Rattle.wire.specs.Kinds.{kind_of, is_sign, lead}
 use Rattle.wire.specs.Messages.{Header, Payload, Message}
 use Rattle.wire.specs.Answers.{Answer, check, and_then, map_ok}
@@ -53,11 +54,11 @@ chain (suc left) code naming at bs =
 -- the header: its fixed bytes, then the sessions of its map. The map info is what is found
 abbrev pub heading : List ℕ → Answer (List ℕ)
 heading bs =
-    check (nat_le 10 (length bs)) (TooShort (length bs))
+    check (nat_le fixed_header (length bs)) (TooShort (length bs))
     (check (slice_index bs 0 == 1) Version
     (check (slice_index bs 1 == 26) DataType
     (check (map_fits (slice_index bs 8) (slice_index bs 9)) (SessionMap 8)
-    (sessions (slice_index bs 8) 10 (drop 10 bs)))))
+    (sessions (slice_index bs 8) fixed_header (drop fixed_header bs)))))
 
 abbrev pub header_of : List ℕ → List ℕ → Header
 header_of bs info = record { byte3 = slice_index bs 3; csb = value_at 4 4 bs; cs = slice_index bs 8; map_type = slice_index bs 9; map_info = info }
@@ -77,17 +78,18 @@ prefix_of h c = record { message = message_of h c; after = c.after }
 abbrev pub walking_prefix : List ℕ → Answer Prefix
 walking_prefix bs =
     and_then (heading bs) (λ info.
-    let at : ℕ = 10 + length info in
-    map_ok (prefix_of (header_of bs info)) (chain 24 (slice_index bs 2) 2 at (drop at bs)))
+    let at : ℕ = fixed_header + length info in
+    map_ok (prefix_of (header_of bs info))
+    (chain most_payloads (slice_index bs 2) 2 at (drop at bs)))
 
 -- a whole message: nothing lies after it
 abbrev pub walking : List ℕ → Answer Message
 walking bs =
-    check (nat_le (length bs) 8192) TooLong
+    check (nat_le (length bs) longest_message) TooLong
     (and_then (walking_prefix bs) (λ p.
     check (nat_le (length p.after) 0) (BytesLeft (length bs - length p.after))
     (Ok p.message)))
 
 -- the same for a caller who lends so many rows
 abbrev pub walking_into : ℕ → List ℕ → Answer Message
-walking_into rows bs = check (nat_le 24 rows) FewRows (walking bs)
+walking_into rows bs = check (nat_le most_payloads rows) FewRows (walking bs)

@@ -1,5 +1,6 @@
 // The fields that a profile is asked about, by their numbers, written out as those of slots are.
-ghost use Rattle.std.specs.Prelude.{◌≡◌, Some};
+ghost use Rattle.std.specs.Prelude.{◌≡◌, ◌≤◌, Some};
+ghost use Rattle.wire.specs.Limits.{last_field};
 ghost use Rattle.wire.specs.Numbered.{Names, field_number};
 ghost use Rattle.wire.specs.Texts.{field_words};
 
@@ -21,8 +22,27 @@ pub enum Field {
 }
 
 impl Field {
+    /// All fields, in the order of their numbers.
+    pub const ALL: [Field; 10] = [
+        Field::Version,
+        Field::Prf,
+        Field::Purpose,
+        Field::Sessions,
+        Field::RandLength,
+        Field::IdType,
+        Field::Protocol,
+        Field::SakkeParams,
+        Field::IdScheme,
+        Field::SignType,
+    ];
+
+    /// The field with the highest number.
+    pub const LAST: Field = Field::SignType;
+
+    /// Its number, from 1 on.
     pub const fn number(self) -> u8
-        ensures { result ≡ field_number self }
+        ensures is { result ≡ field_number self }
+        ensures among { (1 ≤ result) × (result ≤ last_field) }
     {
         self as u8
     }

@@ -14,7 +14,7 @@ mod words;
 pub use bytes::{byte_at, bytes_at, bytes_from};
 pub use field::Field;
 pub use kind::Kind;
-pub use limits::{LONGEST, MOST_PAYLOADS, SAKKE_MESSAGE, VERSION};
+pub use limits::{FIXED_HEADER, LONGEST, LONGEST_SIGNATURE, MOST_PAYLOADS, SAKKE_MESSAGE, VERSION};
 pub use number::UnknownNumber;
 pub use refusal::{Refusal, Told};
 pub use row::{Row, Walked};

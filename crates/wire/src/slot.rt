@@ -1,5 +1,6 @@
 // The slots of payloads, by their numbers. Number and conversion are written out for kinds, slots and fields alike: no derive makes them.
-ghost use Rattle.std.specs.Prelude.{◌≡◌, Some};
+ghost use Rattle.std.specs.Prelude.{◌≡◌, ◌≤◌, Some};
+ghost use Rattle.wire.specs.Limits.{last_slot};
 ghost use Rattle.wire.specs.Numbered.{Names, slot_number};
 ghost use Rattle.wire.specs.Texts.{slot_words};
 
@@ -24,8 +25,32 @@ pub enum Slot {
 }
 
 impl Slot {
+    /// All slots, in the order of their numbers.
+    pub const ALL: [Slot; 12] = [
+        Slot::T,
+        Slot::Rand,
+        Slot::Idri,
+        Slot::Idrr,
+        Slot::Idrkmsi,
+        Slot::Idrkmsr,
+        Slot::Sp,
+        Slot::Sakke,
+        Slot::ExtSakke,
+        Slot::ExtParams,
+        Slot::Sign,
+        Slot::Other,
+    ];
+
+    /// The slot with the highest number.
+    pub const LAST: Slot = Slot::Other;
+
+    /// The slot of the payload that names the signer.
+    pub const SIGNER: Slot = Slot::Idri;
+
+    /// Its number, from 1 on.
     pub const fn number(self) -> u8
-        ensures { result ≡ slot_number self }
+        ensures is { result ≡ slot_number self }
+        ensures among { (1 ≤ result) × (result ≤ last_slot) }
     {
         self as u8
     }

@@ -9,4 +9,4 @@ pub loop-slot-preserved : goal.loop-slot-preserved
 loop-slot-preserved g c = search (rules, sufficing_next)
 
 pub loop-slot-init : goal.loop-slot-init
-loop-slot-init g c = rw c.number-slot.ensures
+loop-slot-init g c = rw c.number-slot.ensures.is
