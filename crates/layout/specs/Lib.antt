@@ -1,1 +1,5 @@
 pub mod Measures
+pub mod Views
+pub mod Headers
+pub mod Cursors
+pub mod Sessions

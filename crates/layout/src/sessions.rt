@@ -17,7 +17,7 @@ pub fn map_fits(cs: u8, map_type: u8) -> bool
     matches!((map_type, cs), (1, 0) | (2, 1..=4))
 }
 
-fn policy_count(session: &[u8]) -> usize
+pub(crate) fn policy_count(session: &[u8]) -> usize
     ensures is { result ≡ policy_count session.now }
     ensures small { result < 128 }
 {
@@ -58,8 +58,9 @@ impl Layout for Session {
 }
 
 // The length of the session that begins at a place.
-fn session_length(at: usize, bytes: &[u8]) -> Result<usize, Refusal>
+pub(crate) fn session_length(at: usize, bytes: &[u8]) -> Result<usize, Refusal>
     ensures answer { result ≡ map_ok length (session_at at (drop at bytes.now)) }
+    ensures least { IfOk result (λ n. 6 ≤ n) }
     ensures within { IfOk result (λ n. at + n ≤ max at (length bytes.now)) }
 {
     part_length(

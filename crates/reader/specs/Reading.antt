@@ -3,9 +3,9 @@ use Rattle.std.specs.Prelude.{ℕ, Bool, List, [], length, take, drop, Ok, nat_l
 use Rattle.std.specs.Option.{option_map, unwrap_or}
 use Rattle.wire.specs.declared.refusal.Refusal.TheVariants.{FewRows, NotPassed}
 use Rattle.wire.specs.declared.row.Row.{Row}
+use Rattle.wire.specs.Limits.{most_payloads}
 use Rattle.wire.specs.Messages.{Message, span}
-use Rattle.wire.specs.declared.slot.Slot.TheVariants.{Idri}
-use Rattle.wire.specs.Rows.{rows, first_in_slot}
+use Rattle.wire.specs.Rows.{rows, signer_slot, first_in_slot}
 use Rattle.wire.specs.Answers.{Answer, check, and_then}
 use Rattle.wire.specs.Walking.{walking}
 use Rattle.profile.specs.Tables.{Tables}
@@ -16,7 +16,7 @@ use Rattle.verifier.specs.Signed.{Signed, signed, signed_in}
 abbrev pub signer_in : List ℕ → List Row → List ℕ
 signer_in bs rows =
     unwrap_or
-    (option_map (λ r. drop 5 (take r.length (drop r.start bs))) (first_in_slot Idri rows)) []
+    (option_map (λ r. drop 5 (take r.length (drop r.start bs))) (first_in_slot signer_slot rows)) []
 
 -- by the rows of the message and the length of its span
 abbrev pub verifying : (Signed → Bool) → List ℕ → List Row → ℕ → Answer (Unit {0})
@@ -34,4 +34,4 @@ reading T V bs =
 
 -- the same for a caller who lends so many rows
 abbrev pub reading_into : ℕ → Tables → (Signed → Bool) → List ℕ → Answer Message
-reading_into n T V bs = check (nat_le 24 n) FewRows (reading T V bs)
+reading_into n T V bs = check (nat_le most_payloads n) FewRows (reading T V bs)

@@ -3,19 +3,21 @@ ghost use Rattle.std.specs.Prelude.{◌≡◌};
 ghost use Rattle.reader.specs.Reading.{signer_in, verifying};
 ghost use Rattle.reader.specs.Judges.{Judges};
 
+use layout::{Idr, body_of};
 use profile::{Profile, admit};
 use verifier::Verifier;
 use walk::first_in_slot;
 use wire::{Refusal, Row, Slot, bytes_at, bytes_from};
 
-// The ID data of the first IDR of role 1, behind five bytes; no bytes if there is none.
+// The ID data of the first IDR of role 1; no bytes if there is none.
 fn signer<'a>(message: &'a [u8], rows: &[Row]) -> &'a [u8]
     ensures { result.now ≡ signer_in message.now rows.now }
 {
-    match first_in_slot(rows, Slot::Idri) {
+    match first_in_slot(rows, Slot::SIGNER) {
         Some(row) => {
             let payload = bytes_at(message, row.start as usize, row.length as usize);
-            bytes_from(payload, 5)
+            let body = body_of(payload);
+            Idr { body }.content()
         }
         None => &[],
     }

@@ -9,3 +9,5 @@ mod numbers;
 mod prefixes;
 #[cfg(test)]
 mod tests;
+#[cfg(test)]
+mod views;
