@@ -3,6 +3,8 @@ use Rattle.std.specs.Prelude.{◌≡◌, ℕ, ◌+◌, ◌/◌, ◌%◌, List, [
 use Rattle.wire.specs.declared.kind.Kind.{Kind}
 use Rattle.wire.specs.declared.refusal.Refusal.TheVariants.{FieldNotTaken, RankFalls, AboveMost, BelowLeast}
 use Rattle.wire.specs.declared.row.Row.{Row}
+use Rattle.wire.specs.declared.field.Field.TheVariants as asked
+use Rattle.wire.specs.Numbered.{field_number}
 use Rattle.wire.specs.Kinds.{kind_of}
 use Rattle.wire.specs.Messages.{Message, encode}
 use Rattle.wire.specs.Lawful.{Lawful}
@@ -21,7 +23,11 @@ taking T [] = Ok tt
 taking T (f ∷ fs) = check (T.takes f.number f.value) (FieldNotTaken f.byte f.number) (taking T fs)
 
 abbrev pub header_in : List ℕ → List Field
-header_in bs = field 1 3 (slice_index bs 3 / 128) ∷ field 2 3 (slice_index bs 3 % 128) ∷ field 3 4 (slice_index bs 4 / 16) ∷ field 4 8 (slice_index bs 8) ∷ []
+header_in bs =
+    field (field_number asked.Version) 3 (slice_index bs 3 / 128)
+    ∷ field (field_number asked.Prf) 3 (slice_index bs 3 % 128)
+    ∷ field (field_number asked.Purpose) 4 (slice_index bs 4 / 16)
+    ∷ field (field_number asked.Sessions) 8 (slice_index bs 8) ∷ []
 
 abbrev pub places_of : Option Kind → ℕ → List Place
 places_of None slot = []
@@ -32,7 +38,9 @@ field_in bs start f = field f.number (start + f.byte) (value_in f.number (slice_
 
 -- SAKKE params, and ID scheme behind it
 abbrev pub sakke_in : List ℕ → ℕ → List Field
-sakke_in bs params = field 8 params (slice_index bs params) ∷ field 9 (params + 1) (slice_index bs (params + 1)) ∷ []
+sakke_in bs params =
+    field (field_number asked.SakkeParams) params (slice_index bs params)
+    ∷ field (field_number asked.IdScheme) (params + 1) (slice_index bs (params + 1)) ∷ []
 
 abbrev pub fields_in : List ℕ → Row → List Field
 fields_in bs r = map (field_in bs r.start) (places_of (kind_of r.code) r.slot)

@@ -3,13 +3,14 @@ use Rattle.std.specs.Prelude.{◌≡◌, ℕ, zero, suc, ◌-◌, ◌+◌, ◌*�
 use Rattle.std.specs.Borrow.{Bor}
 use Rattle.std.specs.Char.{is_ascii_digit}
 use Rattle.std.specs.Str.{bytes_eq}
+use Rattle.wire.specs.Limits.{last_slot}
 use Rattle.wire.specs.Answers.{check, and_then, map_ok, map_err}
 use Rattle.profile.specs.declared.sheet.Entry.{Entry}
 use Rattle.profile.specs.declared.sheet.Line.{Line}
 use Rattle.profile.specs.declared.refusal.SheetRefusal.{SheetRefusal}
 use Rattle.profile.specs.declared.refusal.SheetRefusal.TheVariants.{FirstLine, LineForm, LineBounds}
 use Rattle.profile.specs.SheetRefusals.{sheet_told}
-use Rattle.profile.specs.Sheets.{names, sheet_text, Lines, entries_of}
+use Rattle.profile.specs.Sheets.{sheet_most, sheet_rank, names, sheet_text, Lines, entries_of}
 
 -- an answer that may be the refusal of a sheet
 abbrev pub SheetAnswer : Type 0 → Type 0
@@ -46,7 +47,11 @@ line_in bs =
     Some (record { slot = slot; entry = record { bounds = record { least = least; most = most }; rank = rank } }, bs)))))
 
 abbrev pub bounded : ℕ → Line → Bool
-bounded above l = nat_lt above l.slot && (nat_le l.slot 12 && (nat_le l.entry.bounds.least l.entry.bounds.most && (nat_le l.entry.bounds.most 24 && nat_le l.entry.rank 24)))
+bounded above l =
+    nat_lt above l.slot
+    && (nat_le l.slot last_slot
+    && (nat_le l.entry.bounds.least l.entry.bounds.most
+    && (nat_le l.entry.bounds.most sheet_most && nat_le l.entry.rank sheet_rank)))
 
 -- a line behind one with the slot `above`, and the text behind it; `at` is where the line starts
 abbrev pub line_behind : ℕ → ℕ → List ℕ → SheetAnswer (Line × List ℕ)

@@ -1,8 +1,9 @@
 -- A sheet: the text that it is written as, and the tables that it stands for.
-use Rattle.std.specs.Prelude.{ℕ, ◌+◌, ◌/◌, ◌%◌, ◌<◌, ◌≤◌, cond, List, [], ◌∷◌, ◌++◌, map, codes, ◌==◌, nat_lt, slice_index_or}
+use Rattle.std.specs.Prelude.{ℕ, suc, ◌+◌, ◌/◌, ◌%◌, ◌<◌, ◌≤◌, cond, List, [], ◌∷◌, ◌++◌, map, codes, ◌==◌, nat_lt, slice_index_or}
 use Rattle.std.specs.List.{flat_map, range_with_len}
 use Rattle.profile.specs.declared.sheet.Entry.{Entry}
 use Rattle.profile.specs.declared.sheet.Line.{Line}
+use Rattle.wire.specs.Limits.{last_slot}
 use Rattle.profile.specs.Tables.{Tables}
 use Rattle.profile.specs.Values.{sheet_values, taken_in}
 
@@ -24,13 +25,20 @@ names = codes "slot least most rank" ++ (10 ∷ [])
 abbrev pub sheet_text : List Line → List ℕ
 sheet_text lines = names ++ flat_map line_text lines
 
+-- the highest count and the highest rank that a line may give
+abbrev pub sheet_most : ℕ
+sheet_most = 24
+
+abbrev pub sheet_rank : ℕ
+sheet_rank = 24
+
 -- the slot rises above that of the line before
 pub record Bounded (above : ℕ) (l : Line) : Type 0 where
   pub rises : above < l.slot
-  pub there : l.slot ≤ 12
+  pub there : l.slot ≤ last_slot
   pub counts : l.entry.bounds.least ≤ l.entry.bounds.most
-  pub most : l.entry.bounds.most ≤ 24
-  pub rank : l.entry.rank ≤ 24
+  pub most : l.entry.bounds.most ≤ sheet_most
+  pub rank : l.entry.rank ≤ sheet_rank
 
 abbrev pub Lines : ℕ → List Line → Type 0
 Lines above [] = Unit {0}
@@ -44,9 +52,9 @@ abbrev pub entry_in : List Line → ℕ → Entry
 entry_in [] slot = nothing
 entry_in (l ∷ ls) slot = cond (l.slot == slot) l.entry (entry_in ls slot)
 
--- slots 0 to 12, of which 0 has no line
+-- slots from 0 on, which has no line
 abbrev pub entries_of : List Line → List Entry
-entries_of lines = map (entry_in lines) (range_with_len 0 13)
+entries_of lines = map (entry_in lines) (range_with_len 0 (suc last_slot))
 
 -- what a sheet with these entries means; field answers are those of GMK with every purpose
 abbrev pub entries_tables : List Entry → Tables

@@ -12,6 +12,11 @@ use crate::values::sheet_values;
 use std::marker::Model;
 use wire::Slot;
 
+// The highest count and the highest rank that a line may give.
+const SHEET_MOST: u8 = 24;
+
+const SHEET_RANK: u8 = 24;
+
 // The counts and the rank of a slot.
 #[derive(Clone, Copy)]
 pub(crate) struct Entry {
@@ -85,8 +90,8 @@ impl Line {
         above < self.slot
             && self.slot <= Slot::LAST.number()
             && self.entry.bounds.least <= self.entry.bounds.most
-            && self.entry.bounds.most <= 24
-            && self.entry.rank <= 24
+            && self.entry.bounds.most <= SHEET_MOST
+            && self.entry.rank <= SHEET_RANK
     }
 }
 
