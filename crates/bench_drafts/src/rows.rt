@@ -1,7 +1,7 @@
 // A call as C hands it: numbers in a row, and its bytes a part of those that are handed beside.
 ghost use Rattle.std.specs.Prelude.{◌≡◌};
 ghost use Rattle.profile.specs.Fixed.{fixed_tables};
-ghost use Rattle.plain.specs.Steps.{called};
+ghost use Rattle.plain.specs.Steps.{call_step};
 ghost use Rattle.bench_drafts.specs.Rows.{part_of, step_in};
 
 use plain::{Call, Head};
@@ -45,7 +45,7 @@ fn part(bytes: &[u8], start: usize, length: usize) -> &[u8]
 }
 
 pub(crate) fn call_of<'a>(row: &CallRow, bytes: &'a [u8], profile: &'a Fixed) -> Call<'a, Fixed>
-    ensures { called fixed_tables result ≡ step_in bytes.now (fixed_tables profile.now) row.now }
+    ensures { call_step fixed_tables result ≡ step_in bytes.now (fixed_tables profile.now) row.now }
 {
     let own = part(bytes, row.start, row.length);
     match row.kind {

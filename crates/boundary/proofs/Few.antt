@@ -7,7 +7,7 @@ use Rattle.wire.specs.Octets.{Octets}
 use Rattle.walk.specs.Walks.{Walks}
 use Rattle.walk.proofs.Promises.{walks}
 use Rattle.profile.specs.Tables.{Tables}
-use Rattle.verifier.specs.Signed.{Signed}
+use Rattle.verifier.specs.Signed.{Triple}
 use Rattle.reader.specs.Reads.{Reads}
 use Rattle.reader.proofs.Promises.{few_rows}
 use Rattle.boundary.specs.declared.fault.Fault.TheVariants.{Refused}
@@ -27,7 +27,7 @@ walk_few bytes n table y h = record {
   ends = tt;
 }
 
-pub read_few : (T : Tables) (V : Signed → Bool) (bytes : List ℕ) (n : ℕ) (table : List Row) → Octets bytes → n < 144 → Tabled (Reads T V bytes) n (Err (Refused FewRows)) table
+pub read_few : (T : Tables) (V : Triple → Bool) (bytes : List ℕ) (n : ℕ) (table : List Row) → Octets bytes → n < 144 → Tabled (Reads T V bytes) n (Err (Refused FewRows)) table
 read_few T V bytes n table y h = record {
   answer = Err FewRows;
   told = lent n;

@@ -4,12 +4,12 @@ use Rattle.std.proofs.lemmas.Bool.{le-leb, lt-leb}
 use Rattle.std.proofs.lemmas.List.{length-drop}
 use Rattle.profile.specs.Tables.{Tables}
 use Rattle.profile.specs.declared.sheet.Entry.{Entry}
-use Rattle.profile.specs.Parsing.{parsing}
+use Rattle.profile.specs.Parsing.{parse_answer}
 use Rattle.profile.specs.Sheets.{entries_of, entries_tables, lines_tables}
 use Rattle.wire.specs.Answers.{map_ok, map_err}
 use Rattle.wire.proofs.Answers.{found}
 use Rattle.verifier.specs.declared.refusal.TrustRefusal.{TrustRefusal}
-use Rattle.verifier.specs.Signers.{entering, entered}
+use Rattle.verifier.specs.Signers.{enter_answer, list_after}
 use Rattle.boundary.specs.declared.fault.Fault.TheVariants.{SheetRefused, SignerRefused, TrustCut}
 use Rattle.boundary.specs.Outcomes.{Outcome, go_on}
 use Rattle.boundary.specs.Trusted.{entries, entries_in, trusted_in}
@@ -17,10 +17,10 @@ use Rattle.boundary.specs.Settings.{sheet_in, passes, Setting, setting}
 
 -- the entries that a text was parsed to are those of its lines
 pub sheet_same :
-    (text : List ℕ) (sheet : List Entry) → Ok sheet ≡ map_ok entries_of (parsing text)
+    (text : List ℕ) (sheet : List Entry) → Ok sheet ≡ map_ok entries_of (parse_answer text)
     → Ok (entries_tables sheet) ≡ sheet_in text
 sheet_same text sheet e =
-    let f = found (parsing text) entries_of sheet e in
+    let f = found (parse_answer text) entries_of sheet e in
     ap (λ x. Ok (entries_tables x)) (sym f.2)
     ∙ sym (ap (λ r. map_err SheetRefused (map_ok lines_tables r)) f.1)
 
@@ -45,23 +45,23 @@ signer rest = take (get_or rest 0 0) (drop 1 rest)
 -- one that is all there
 entry : (n end : ℕ) (list : List (List ℕ)) (size : ℕ) (tail : List ℕ) → size ≤ length tail
     → entries (suc n) end list (size ∷ tail)
-    ≡ go_on (map_err SignerRefused (entering list (take size tail))) (λ _. entries n end (entered list (take size tail)) (drop size tail))
+    ≡ go_on (map_err SignerRefused (enter_answer list (take size tail))) (λ _. entries n end (list_after list (take size tail)) (drop size tail))
 unfolding entries
 entry n end list size tail l = let t : leb size (length tail) ≡ true = le-leb size (length tail) l in rw t refl
 
-pub one_refused : (n end : ℕ) (list : List (List ℕ)) (rest : List ℕ) (f : TrustRefusal) → length rest ≤ n → get_or rest 0 0 < length rest → Err f ≡ entering list (signer rest)
+pub one_refused : (n end : ℕ) (list : List (List ℕ)) (rest : List ℕ) (f : TrustRefusal) → length rest ≤ n → get_or rest 0 0 < length rest → Err f ≡ enter_answer list (signer rest)
     → entries n end list rest ≡ Err (SignerRefused f)
 one_refused n end list [] f m l e = absurd (omega arith)
 one_refused zero end list (size ∷ tail) f m l e = absurd (omega arith)
 one_refused (suc n) end list (size ∷ tail) f m l e =
-    entry n end list size tail (omega arith) ∙ ap (λ r. go_on (map_err SignerRefused r) (λ _. entries n end (entered list (take size tail)) (drop size tail))) (sym e)
+    entry n end list size tail (omega arith) ∙ ap (λ r. go_on (map_err SignerRefused r) (λ _. entries n end (list_after list (take size tail)) (drop size tail))) (sym e)
 
-pub one_entered : (n end : ℕ) (list : List (List ℕ)) (rest : List ℕ) (u : Unit {0}) → length rest ≤ n → get_or rest 0 0 < length rest → Ok u ≡ entering list (signer rest)
-    → (k : ℕ) × (length (drop (get_or rest 0 0) (drop 1 rest)) ≤ k) × (entries n end list rest ≡ entries k end (entered list (signer rest)) (drop (get_or rest 0 0) (drop 1 rest)))
+pub one_entered : (n end : ℕ) (list : List (List ℕ)) (rest : List ℕ) (u : Unit {0}) → length rest ≤ n → get_or rest 0 0 < length rest → Ok u ≡ enter_answer list (signer rest)
+    → (k : ℕ) × (length (drop (get_or rest 0 0) (drop 1 rest)) ≤ k) × (entries n end list rest ≡ entries k end (list_after list (signer rest)) (drop (get_or rest 0 0) (drop 1 rest)))
 one_entered n end list [] u m l e = absurd (omega arith)
 one_entered zero end list (size ∷ tail) u m l e = absurd (omega arith)
 one_entered (suc n) end list (size ∷ tail) u m l e =
-    (n, simp length-drop (omega arith), entry n end list size tail (omega arith) ∙ ap (λ r. go_on (map_err SignerRefused r) (λ _. entries n end (entered list (take size tail)) (drop size tail))) (sym e))
+    (n, simp length-drop (omega arith), entry n end list size tail (omega arith) ∙ ap (λ r. go_on (map_err SignerRefused r) (λ _. entries n end (list_after list (take size tail)) (drop size tail))) (sym e))
 
 -- a setting whose profile and trust list are there
 pub under : (P : Outcome Setting → Type 0) (profile : Outcome Tables) (key : ℕ) (trusted : List ℕ) (t : Tables) (k : ℕ) (list : List (List ℕ)) → profile ≡ Ok t

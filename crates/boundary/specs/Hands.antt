@@ -14,19 +14,22 @@ pub record Numbers : Type 0 where
   pub detail : ℕ
 
 abbrev pub numbers : ℕ → ℕ → ℕ → ℕ → ℕ → Numbers
-numbers count header span place detail = record { count = count; header = header; span = span; place = place; detail = detail }
+numbers count header span place detail =
+    record { count = count; header = header; span = span; place = place; detail = detail }
 
 -- the same afterwards
 abbrev pub handed : Outcome Walked → Numbers → Numbers
 handed (Ok w) n = numbers (narrowed w.count) (narrowed w.header) (narrowed w.span) n.place n.detail
-handed (Err f) n = numbers n.count n.header n.span (narrowed (fault_told f).place) (fault_told f).detail
+handed (Err f) n = numbers n.count n.header n.span (narrowed (fault_told f).place)
+    (fault_told f).detail
 
 -- rows of a message go into the first 144 bytes
 abbrev pub laid : Outcome Walked → List Row → List ℕ → List ℕ
 laid (Ok w) table bytes = rows_bytes table ++ drop 144 bytes
 laid (Err f) table bytes = bytes
 
-pub record Hands (outcome : Outcome Walked) (table : List Row) (rows left : List ℕ) (before after : Numbers) (code : ℕ) : Type 0 where
+pub record Hands (outcome : Outcome Walked) (table : List Row) (rows left : List ℕ)
+    (before after : Numbers) (code : ℕ) : Type 0 where
   pub written : left ≡ laid outcome table rows
   pub told : after ≡ handed outcome before
   pub returns : code ≡ status outcome

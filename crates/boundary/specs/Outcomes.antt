@@ -1,10 +1,11 @@
--- What a call across the boundary comes to: its value, a refusal, or a fault of its own; and the numbers that it is told by.
+-- What a call across the boundary comes to: its value, a refusal, or a fault of its own; and the
+-- numbers that it is told by.
 use Rattle.std.specs.Prelude.{ℕ, cond, Ok, Err, Result, nat_le}
-use Rattle.wire.specs.declared.refusal.Told.{Told}
+use Rattle.wire.specs.declared.refusal.Report.{Report}
 use Rattle.wire.specs.Answers.{Answer}
-use Rattle.wire.specs.Refusals.{tells, told}
-use Rattle.profile.specs.SheetRefusals.{sheet_told}
-use Rattle.verifier.specs.TrustRefusals.{trust_told}
+use Rattle.wire.specs.Refusals.{report, report_of}
+use Rattle.profile.specs.SheetRefusals.{sheet_report_of}
+use Rattle.verifier.specs.TrustRefusals.{trust_report_of}
 use Rattle.boundary.specs.declared.fault.Fault.{Fault}
 use Rattle.boundary.specs.declared.fault.Fault.TheVariants.{Refused, SheetRefused, SignerRefused, NoProfile, TrustCut}
 
@@ -25,13 +26,14 @@ abbrev pub mapped : {A B : Type 0} → (A → B) → Outcome A → Outcome B
 mapped g (Ok a) = Ok (g a)
 mapped g (Err f) = Err f
 
--- a refusal has the number that its enum gives it; a fault of the boundary has a number of 100 or more
-abbrev pub fault_told : Fault → Told
-fault_told (Refused f) = told f
-fault_told (SheetRefused f) = sheet_told f
-fault_told (SignerRefused f) = trust_told f
-fault_told NoProfile = tells 100 0 0
-fault_told (TrustCut place) = tells 101 place 0
+-- a refusal has the number that its enum gives it; a fault of the boundary has a number of 100 or
+-- more
+abbrev pub fault_told : Fault → Report
+fault_told (Refused f) = report_of f
+fault_told (SheetRefused f) = sheet_report_of f
+fault_told (SignerRefused f) = trust_report_of f
+fault_told NoProfile = report 100 0 0
+fault_told (TrustCut place) = report 101 place 0
 
 -- a number in 32 bits; a greater one is told as the greatest
 abbrev pub narrowed : ℕ → ℕ

@@ -5,8 +5,8 @@ use Rattle.profile.specs.Tables.{Tables}
 use Rattle.profile.specs.declared.fixed.Fixed.{Fixed}
 use Rattle.profile.specs.declared.fixed.Fixed.TheVariants.{Csk, Pck, Gmk}
 use Rattle.profile.specs.Sheets.{lines_tables}
-use Rattle.profile.specs.Parsing.{parsing}
-use Rattle.verifier.specs.Signed.{Signed}
+use Rattle.profile.specs.Parsing.{parse_answer}
+use Rattle.verifier.specs.Signed.{Triple}
 use Rattle.verifier.specs.Tags.{tag_passes}
 use Rattle.verifier.specs.TrustLists.{trust_passes}
 use Rattle.boundary.specs.declared.fault.Fault.TheVariants.{SheetRefused, NoProfile}
@@ -15,19 +15,20 @@ use Rattle.boundary.specs.Trusted.{trusted_in}
 
 -- a fixed profile by its number
 abbrev pub fixed_in : ℕ → Outcome Fixed
-fixed_in n = cond (n == 1) (Ok Csk) (cond (n == 2) (Ok Pck) (cond (n == 3) (Ok Gmk) (Err NoProfile)))
+fixed_in n = cond (n == 1) (Ok Csk)
+    (cond (n == 2) (Ok Pck) (cond (n == 3) (Ok Gmk) (Err NoProfile)))
 
 -- the tables of the sheet that a text writes
 abbrev pub sheet_in : List ℕ → Outcome Tables
-sheet_in text = map_err SheetRefused (map_ok lines_tables (parsing text))
+sheet_in text = map_err SheetRefused (map_ok lines_tables (parse_answer text))
 
 -- whether a tag of this key is right, and the signer on the list
-abbrev pub passes : ℕ → List (List ℕ) → Signed → Bool
+abbrev pub passes : ℕ → List (List ℕ) → Triple → Bool
 passes key list s = trust_passes (tag_passes (record { key = key })) list s
 
 pub record Setting : Type 0 where
   pub tables : Tables
-  pub passing : Signed → Bool
+  pub passing : Triple → Bool
 
 -- the profile first, then the trust list
 abbrev pub setting : Outcome Tables → ℕ → List ℕ → Outcome Setting

@@ -4,7 +4,7 @@ ghost use Rattle.boundary.specs.Outcomes.{fault_told};
 
 use profile::SheetRefusal;
 use verifier::TrustRefusal;
-use wire::{Refusal, Told};
+use wire::{Refusal, Report};
 
 /// Why a call across the boundary comes to nothing: a refusal of the library, or a fault in what
 /// crosses, with a number of 100 or more.
@@ -24,15 +24,15 @@ pub enum Fault {
 
 impl Fault {
     /// The fault's number, place and detail. A refusal has its own.
-    pub fn told(self) -> Told
+    pub fn report(self) -> Report
         ensures { result ≡ fault_told self }
     {
         match self {
-            Fault::Refused(refusal) => refusal.told(),
-            Fault::SheetRefused(refusal) => refusal.told(),
-            Fault::SignerRefused(refusal) => refusal.told(),
-            Fault::NoProfile => Told::new(100, 0, 0),
-            Fault::TrustCut(place) => Told::new(101, place, 0),
+            Fault::Refused(refusal) => refusal.report(),
+            Fault::SheetRefused(refusal) => refusal.report(),
+            Fault::SignerRefused(refusal) => refusal.report(),
+            Fault::NoProfile => Report::new(100, 0, 0),
+            Fault::TrustCut(place) => Report::new(101, place, 0),
         }
     }
 }

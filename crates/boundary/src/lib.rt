@@ -1,4 +1,5 @@
-// What crosses to C, and what it means: numbers and bytes alone. The exports of capi call one function of this crate each.
+// What crosses to C, and what it means: numbers and bytes alone. The exports of capi call one
+// function of this crate each.
 #![tactic(auto)]
 
 mod fault;

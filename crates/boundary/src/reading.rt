@@ -1,6 +1,6 @@
 // Reads a message across the boundary.
 ghost use Rattle.std.specs.Prelude.{◌≡◌, replicate, Ok};
-ghost use Rattle.wire.specs.Rows.{blank};
+ghost use Rattle.wire.specs.Rows.{blank_row};
 ghost use Rattle.profile.specs.Fixed.{fixed_tables};
 ghost use Rattle.reader.specs.Reads.{Reads};
 ghost use Rattle.boundary.specs.Outcomes.{mapped};
@@ -24,8 +24,9 @@ fn read_under<P: Profile, V: Verifier>(
     verifier: &V,
     table: &mut [Row; MOST_PAYLOADS],
 ) -> Result<Walked, Fault>
-    requires { table.old ≡ replicate 24 blank }
-    ensures { Tabled (Reads (P.tables profile.now) (V.passing verifier.now) message.now) room result table.new }
+    requires { table.old ≡ replicate 24 blank_row }
+    ensures { Tabled (Reads (P.tables profile.now) (V.passing verifier.now) message.now) room result
+        table.new }
 {
     if room < TABLE_BYTES {
         return Err(Fault::Refused(Refusal::FewRows));
@@ -41,8 +42,9 @@ fn read_table<P: Profile + Drop>(
     trusted: &[u8],
     table: &mut [Row; MOST_PAYLOADS],
 ) -> Result<Walked, Fault>
-    requires { table.old ≡ replicate 24 blank }
-    ensures { ReadTabled (setting (mapped P.Profile.tables profile) key trusted.now) message.now room result table.new }
+    requires { table.old ≡ replicate 24 blank_row }
+    ensures { ReadTabled (setting (mapped P.Profile.tables profile) key trusted.now) message.now
+        room result table.new }
 {
     let profile = profile?;
     let mut list = TrustList::new(KeyTag { key });
@@ -62,15 +64,17 @@ fn read_bytes<P: Profile + Drop>(
     place: &mut u32,
     detail: &mut u32,
 ) -> u32
-    ensures { ReadSays (setting (mapped P.Profile.tables profile) key trusted.now) message.now rows.old rows.new (numbers count.old header.old span.old place.old detail.old) (numbers count.new header.new span.new place.new detail.new) result }
+    ensures { ReadSays (setting (mapped P.Profile.tables profile) key trusted.now) message.now
+        rows.old rows.new (numbers count.old header.old span.old place.old detail.old)
+        (numbers count.new header.new span.new place.new detail.new) result }
 {
     let mut table = [Row::BLANK; MOST_PAYLOADS];
     let outcome = read_table(message, rows.len(), profile, key, trusted, &mut table);
     hand_out(outcome, &table, rows, count, header, span, place, detail)
 }
 
-// Tells the payloads of a message that the fixed profile of this number admits, and that a tag of this key and the trust list pass, as
-// walk_bytes tells them.
+// Tells the payloads of a message that the fixed profile of this number admits, and that a tag of
+// this key and the trust list pass, as walk_bytes tells them.
 pub fn read_fixed(
     message: &[u8],
     rows: &mut [u8],
@@ -83,7 +87,9 @@ pub fn read_fixed(
     place: &mut u32,
     detail: &mut u32,
 ) -> u32
-    ensures { ReadSays (setting (mapped fixed_tables (fixed_in profile)) key trusted.now) message.now rows.old rows.new (numbers count.old header.old span.old place.old detail.old) (numbers count.new header.new span.new place.new detail.new) result }
+    ensures { ReadSays (setting (mapped fixed_tables (fixed_in profile)) key trusted.now)
+        message.now rows.old rows.new (numbers count.old header.old span.old place.old detail.old)
+        (numbers count.new header.new span.new place.new detail.new) result }
 {
     let profile = fixed(profile);
     read_bytes(
@@ -104,7 +110,9 @@ pub fn read_sheet(
     place: &mut u32,
     detail: &mut u32,
 ) -> u32
-    ensures { ReadSays (setting (sheet_in text.now) key trusted.now) message.now rows.old rows.new (numbers count.old header.old span.old place.old detail.old) (numbers count.new header.new span.new place.new detail.new) result }
+    ensures { ReadSays (setting (sheet_in text.now) key trusted.now) message.now rows.old rows.new
+        (numbers count.old header.old span.old place.old detail.old)
+        (numbers count.new header.new span.new place.new detail.new) result }
 {
     let profile = sheet(text);
     read_bytes(

@@ -18,7 +18,8 @@ fn redraft_under<P: Profile, V: Verifier>(
     verifier: &V,
     buffer: &mut [u8],
 ) -> Result<usize, Fault>
-    ensures { Redrafted (P.tables profile.now) (V.passing verifier.now) message.now buffer.old buffer.new result }
+    ensures { Redrafted (P.tables profile.now) (V.passing verifier.now) message.now buffer.old
+        buffer.new result }
 {
     Ok(redraft(message, profile, verifier, buffer)?)
 }
@@ -30,7 +31,8 @@ fn redraft_into<P: Profile + Drop>(
     trusted: &[u8],
     buffer: &mut [u8],
 ) -> Result<usize, Fault>
-    ensures { RedraftComes (setting (mapped P.Profile.tables profile) key trusted.now) message.now buffer.old buffer.new result }
+    ensures { RedraftComes (setting (mapped P.Profile.tables profile) key trusted.now) message.now
+        buffer.old buffer.new result }
 {
     let profile = profile?;
     let mut list = TrustList::new(KeyTag { key });
@@ -48,7 +50,9 @@ fn redraft_bytes<P: Profile + Drop>(
     place: &mut u32,
     detail: &mut u32,
 ) -> u32
-    ensures { RedraftSays (setting (mapped P.Profile.tables profile) key trusted.now) message.now buffer.old buffer.new (number length.old place.old detail.old) (number length.new place.new detail.new) result }
+    ensures { RedraftSays (setting (mapped P.Profile.tables profile) key trusted.now) message.now
+        buffer.old buffer.new (number length.old place.old detail.old)
+        (number length.new place.new detail.new) result }
 {
     match redraft_into(message, profile, key, trusted, buffer) {
         Ok(n) => {
@@ -70,7 +74,9 @@ pub fn redraft_fixed(
     place: &mut u32,
     detail: &mut u32,
 ) -> u32
-    ensures { RedraftSays (setting (mapped fixed_tables (fixed_in profile)) key trusted.now) message.now buffer.old buffer.new (number length.old place.old detail.old) (number length.new place.new detail.new) result }
+    ensures { RedraftSays (setting (mapped fixed_tables (fixed_in profile)) key trusted.now)
+        message.now buffer.old buffer.new (number length.old place.old detail.old)
+        (number length.new place.new detail.new) result }
 {
     let profile = fixed(profile);
     redraft_bytes(
@@ -89,7 +95,9 @@ pub fn redraft_sheet(
     place: &mut u32,
     detail: &mut u32,
 ) -> u32
-    ensures { RedraftSays (setting (sheet_in text.now) key trusted.now) message.now buffer.old buffer.new (number length.old place.old detail.old) (number length.new place.new detail.new) result }
+    ensures { RedraftSays (setting (sheet_in text.now) key trusted.now) message.now buffer.old
+        buffer.new (number length.old place.old detail.old) (number length.new place.new detail.new)
+        result }
 {
     let profile = sheet(text);
     redraft_bytes(

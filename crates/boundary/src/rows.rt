@@ -20,7 +20,8 @@ pub(crate) fn narrow(n: usize) -> u32
     u32::try_from(n).unwrap_or(u32::MAX)
 }
 
-// The last two bytes of a number. A message is no longer, so that nothing is lost; and two bytes are written at once.
+// The last two bytes of a number. A message is no longer, so that nothing is lost; and two bytes
+// are written at once.
 fn pair(n: u32) -> [u8; 2]
     ensures { result ≡ pair n }
 {
@@ -35,7 +36,7 @@ fn spelled(row: &Row) -> [u8; ROW_BYTES]
     [row.code, row.slot, start, start_low, length, length_low]
 }
 
-// Rows, one behind the other.
+// Rows, one after the other.
 fn spell(table: &[Row], bytes: &mut [u8])
     requires { length table.now * 6 ≤ length bytes.old }
     ensures { bytes.new ≡ rows_bytes table.now ++ drop (length table.now * 6) bytes.old }
@@ -52,7 +53,7 @@ pub(crate) fn refuse(fault: Fault, place: &mut u32, detail: &mut u32) -> u32
     ensures place { place.new ≡ narrowed (fault_told fault).place }
     ensures detail { detail.new ≡ (fault_told fault).detail }
 {
-    let told = fault.told();
+    let told = fault.report();
     *place = narrow(told.place);
     *detail = told.detail as u32;
     told.number as u32
@@ -71,7 +72,9 @@ pub(crate) fn hand_out(
 ) -> u32
     requires room { IfOk outcome (λ w. 144 ≤ length rows.old) }
     requires blank { IfOk outcome (λ w. Ends w.count table.now) }
-    ensures { Hands outcome table.now rows.old rows.new (numbers count.old header.old span.old place.old detail.old) (numbers count.new header.new span.new place.new detail.new) result }
+    ensures { Hands outcome table.now rows.old rows.new
+        (numbers count.old header.old span.old place.old detail.old)
+        (numbers count.new header.new span.new place.new detail.new) result }
 {
     match outcome {
         Ok(walked) => {

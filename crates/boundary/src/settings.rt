@@ -1,4 +1,5 @@
-// What a message is read under, as it crosses: the number of a fixed profile or the text of a sheet, a key, and a trust list in bytes.
+// What a message is read under, as it crosses: the number of a fixed profile or the text of a
+// sheet, a key, and a trust list in bytes.
 ghost use Rattle.std.specs.Prelude.{◌≡◌};
 ghost use Rattle.profile.specs.Sheets.{entries_tables};
 ghost use Rattle.boundary.specs.Outcomes.{mapped};
@@ -27,7 +28,7 @@ pub(crate) fn sheet(text: &[u8]) -> Result<Sheet, Fault>
     Ok(Sheet::parse(text)?)
 }
 
-// Enters the signers of a trust list, which stand one behind the other: each a length byte, and
+// Enters the signers of a trust list, which stand one after the other: each a length byte, and
 // that many bytes; up to one that is refused or cut. The list is the caller's own: handed back, its
 // thousand bytes would be moved.
 pub(crate) fn enter_all(list: &mut TrustList<KeyTag>, bytes: &[u8]) -> Result<(), Fault>

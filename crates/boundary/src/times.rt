@@ -7,7 +7,8 @@ use walk::time;
 
 // Tells the seconds of a T payload. Returns 0, or the number of the refusal.
 pub fn time_bytes(payload: &[u8], seconds: &mut u64, place: &mut u32, detail: &mut u32) -> u32
-    ensures { TimeSays payload.now (number seconds.old place.old detail.old) (number seconds.new place.new detail.new) result }
+    ensures { TimeSays payload.now (number seconds.old place.old detail.old)
+        (number seconds.new place.new detail.new) result }
 {
     match time(payload) {
         Ok(told) => {

@@ -8,7 +8,7 @@ pub(crate) const KEY: u64 = 0x0123456789abcdef;
 pub(crate) const SHEET: &[u8] = b"slot least most rank\n3 1 1 0\n11 1 1 0\n";
 
 // What stands in the numbers before a call.
-pub(crate) const BEFORE: Told = Told {
+pub(crate) const BEFORE: Report = Report {
     count: 1001,
     header: 1002,
     span: 1003,
@@ -17,7 +17,7 @@ pub(crate) const BEFORE: Told = Told {
 };
 
 #[derive(Clone, Copy, PartialEq, Eq, Debug)]
-pub(crate) struct Told {
+pub(crate) struct Report {
     pub(crate) count: u32,
     pub(crate) header: u32,
     pub(crate) span: u32,
@@ -26,8 +26,8 @@ pub(crate) struct Told {
 }
 
 // A refusal in the numbers, the others as before.
-pub(crate) fn refused(place: u32, detail: u32) -> Told {
-    Told {
+pub(crate) fn refused(place: u32, detail: u32) -> Report {
+    Report {
         place,
         detail,
         ..BEFORE

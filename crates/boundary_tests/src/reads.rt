@@ -1,9 +1,9 @@
-use crate::messages::{BEFORE, KEY, SHEET, Told, refused, signed};
+use crate::messages::{BEFORE, KEY, Report, SHEET, refused, signed};
 use boundary::{TABLE_BYTES, read_fixed, read_sheet, redraft_fixed, redraft_sheet};
 use std::test::Fail;
 
-fn read_by_number(message: &[u8], profile: u32, trusted: &[u8]) -> (u32, Told) {
-    let Told {
+fn read_by_number(message: &[u8], profile: u32, trusted: &[u8]) -> (u32, Report) {
+    let Report {
         mut count,
         mut header,
         mut span,
@@ -23,7 +23,7 @@ fn read_by_number(message: &[u8], profile: u32, trusted: &[u8]) -> (u32, Told) {
         &mut place,
         &mut detail,
     );
-    let told = Told {
+    let told = Report {
         count,
         header,
         span,
@@ -33,8 +33,8 @@ fn read_by_number(message: &[u8], profile: u32, trusted: &[u8]) -> (u32, Told) {
     (code, told)
 }
 
-fn read_by_sheet(message: &[u8], rows: &mut [u8], sheet: &[u8], trusted: &[u8]) -> (u32, Told) {
-    let Told {
+fn read_by_sheet(message: &[u8], rows: &mut [u8], sheet: &[u8], trusted: &[u8]) -> (u32, Report) {
+    let Report {
         mut count,
         mut header,
         mut span,
@@ -53,7 +53,7 @@ fn read_by_sheet(message: &[u8], rows: &mut [u8], sheet: &[u8], trusted: &[u8]) 
         &mut place,
         &mut detail,
     );
-    let told = Told {
+    let told = Report {
         count,
         header,
         span,
@@ -67,7 +67,7 @@ fn read_by_sheet(message: &[u8], rows: &mut [u8], sheet: &[u8], trusted: &[u8]) 
 fn what_the_sheet_admits(rt: HostRuntime) -> Result<(), Fail> {
     let message = signed(rt.alloc())?;
     let mut rows = [0xee; TABLE_BYTES];
-    let told = Told {
+    let told = Report {
         count: 2,
         header: 10,
         span: 18,

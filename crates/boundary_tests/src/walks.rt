@@ -1,9 +1,9 @@
-use crate::messages::{BEFORE, Told, refused};
+use crate::messages::{BEFORE, Report, refused};
 use boundary::{TABLE_BYTES, time_bytes, walk_bytes};
 use std::test::Fail;
 
-fn walk(message: &[u8], rows: &mut [u8]) -> (u32, Told) {
-    let Told {
+fn walk(message: &[u8], rows: &mut [u8]) -> (u32, Report) {
+    let Report {
         mut count,
         mut header,
         mut span,
@@ -19,7 +19,7 @@ fn walk(message: &[u8], rows: &mut [u8]) -> (u32, Told) {
         &mut place,
         &mut detail,
     );
-    let told = Told {
+    let told = Report {
         count,
         header,
         span,
@@ -42,7 +42,7 @@ fn long(rt: &HostRuntime) -> Result<Vec<u8>, Fail> {
 #[test]
 fn rows_are_six_bytes_each(rt: HostRuntime) -> Result<(), Fail> {
     let mut rows = [0xee; TABLE_BYTES + 1];
-    let told = Told {
+    let told = Report {
         count: 2,
         header: 10,
         span: 264,

@@ -20,7 +20,9 @@ pub extern "C" fn mikey_read_fixed(
     place: &mut u32,
     detail: &mut u32,
 ) -> u32
-    ensures { ReadSays (setting (mapped fixed_tables (fixed_in profile)) key trusted.now) message.now rows.old rows.new (numbers count.old header.old span.old place.old detail.old) (numbers count.new header.new span.new place.new detail.new) result }
+    ensures { ReadSays (setting (mapped fixed_tables (fixed_in profile)) key trusted.now)
+        message.now rows.old rows.new (numbers count.old header.old span.old place.old detail.old)
+        (numbers count.new header.new span.new place.new detail.new) result }
 {
     read_fixed(
         message, rows, profile, key, trusted, count, header, span, place, detail,
@@ -40,7 +42,9 @@ pub extern "C" fn mikey_read_sheet(
     place: &mut u32,
     detail: &mut u32,
 ) -> u32
-    ensures { ReadSays (setting (sheet_in sheet.now) key trusted.now) message.now rows.old rows.new (numbers count.old header.old span.old place.old detail.old) (numbers count.new header.new span.new place.new detail.new) result }
+    ensures { ReadSays (setting (sheet_in sheet.now) key trusted.now) message.now rows.old rows.new
+        (numbers count.old header.old span.old place.old detail.old)
+        (numbers count.new header.new span.new place.new detail.new) result }
 {
     read_sheet(
         message, rows, sheet, key, trusted, count, header, span, place, detail,

@@ -18,7 +18,9 @@ pub extern "C" fn mikey_redraft_fixed(
     place: &mut u32,
     detail: &mut u32,
 ) -> u32
-    ensures { RedraftSays (setting (mapped fixed_tables (fixed_in profile)) key trusted.now) message.now buffer.old buffer.new (number length.old place.old detail.old) (number length.new place.new detail.new) result }
+    ensures { RedraftSays (setting (mapped fixed_tables (fixed_in profile)) key trusted.now)
+        message.now buffer.old buffer.new (number length.old place.old detail.old)
+        (number length.new place.new detail.new) result }
 {
     redraft_fixed(
         message, profile, key, trusted, buffer, length, place, detail,
@@ -36,7 +38,9 @@ pub extern "C" fn mikey_redraft_sheet(
     place: &mut u32,
     detail: &mut u32,
 ) -> u32
-    ensures { RedraftSays (setting (sheet_in sheet.now) key trusted.now) message.now buffer.old buffer.new (number length.old place.old detail.old) (number length.new place.new detail.new) result }
+    ensures { RedraftSays (setting (sheet_in sheet.now) key trusted.now) message.now buffer.old
+        buffer.new (number length.old place.old detail.old) (number length.new place.new detail.new)
+        result }
 {
     redraft_sheet(message, sheet, key, trusted, buffer, length, place, detail)
 }

@@ -15,7 +15,9 @@ pub extern "C" fn mikey_walk(
     place: &mut u32,
     detail: &mut u32,
 ) -> u32
-    ensures { Says (Walks message.now) rows.old rows.new (numbers count.old header.old span.old place.old detail.old) (numbers count.new header.new span.new place.new detail.new) result }
+    ensures { Says (Walks message.now) rows.old rows.new
+        (numbers count.old header.old span.old place.old detail.old)
+        (numbers count.new header.new span.new place.new detail.new) result }
 {
     walk_bytes(message, rows, count, header, span, place, detail)
 }
@@ -27,7 +29,8 @@ pub extern "C" fn mikey_time(
     place: &mut u32,
     detail: &mut u32,
 ) -> u32
-    ensures { TimeSays payload.now (number seconds.old place.old detail.old) (number seconds.new place.new detail.new) result }
+    ensures { TimeSays payload.now (number seconds.old place.old detail.old)
+        (number seconds.new place.new detail.new) result }
 {
     time_bytes(payload, seconds, place, detail)
 }

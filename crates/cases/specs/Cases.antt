@@ -30,7 +30,7 @@ cases =
     ∷ reads sheet pinned (shortest 0x81) (refused 14 3 1)
     -- a header
     ∷ drafts (lent 30) (head ∷ []) (done ∷ []) (headed 30)
-    -- a payload behind it
+    -- a payload after it
     ∷ drafts (lent 30) (head ∷ add_rand 16 ∷ []) (done ∷ done ∷ []) (with_rand 30)
     -- a byte less than the body says
     ∷ drafts (lent 30) (head ∷ add_rand 15 ∷ []) (done ∷ refused 11 0 0 ∷ []) (headed 30)

@@ -2,8 +2,8 @@
 use Rattle.std.specs.Prelude.{ℕ, List, Result, Ok, Err}
 use Rattle.wire.specs.declared.row.Row.{Row}
 use Rattle.wire.specs.declared.row.Walked.{Walked}
-use Rattle.wire.specs.declared.refusal.Told.{Told}
-use Rattle.wire.specs.Refusals.{told}
+use Rattle.wire.specs.declared.refusal.Report.{Report}
+use Rattle.wire.specs.Refusals.{report_of}
 use Rattle.wire.specs.Messages.{Message}
 use Rattle.wire.specs.Rows.{rows, walked_of}
 use Rattle.plain.specs.declared.calls.Reply.{Reply}
@@ -19,11 +19,11 @@ pub data Outcome : Type 0 where
   refused : ℕ → ℕ → ℕ → Outcome
 
 -- by number, place and detail
-abbrev refusal : Told → Outcome
+abbrev refusal : Report → Outcome
 refusal t = refused t.number t.place t.detail
 
 -- of an answer as it is told, whatever refuses
-abbrev pub of_message : Result Message Told → Outcome
+abbrev pub of_message : Result Message Report → Outcome
 of_message (Ok m) = accepted (rows m) (walked_of m)
 of_message (Err t) = refusal t
 
@@ -32,4 +32,4 @@ of_call reply.Done = done
 of_call (reply.Delivered n) = delivered n
 of_call (reply.Released n) = released n
 of_call reply.Misplaced = misplaced
-of_call (reply.Refused f) = refusal (told f)
+of_call (reply.Refused f) = refusal (report_of f)

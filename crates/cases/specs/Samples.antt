@@ -1,14 +1,14 @@
 -- What the rows of the table are made of: messages, profiles, a verifier, calls and buffers.
 use Rattle.std.specs.Prelude.{ℕ, ◌-◌, Bool, List, [], ◌∷◌, ◌++◌, take, replicate, codes, Result, Ok}
-use Rattle.wire.specs.declared.refusal.Told.{Told}
+use Rattle.wire.specs.declared.refusal.Report.{Report}
 use Rattle.wire.specs.Answers.{map_ok, map_err}
 use Rattle.profile.specs.declared.fixed.Fixed.TheVariants.{Csk}
 use Rattle.profile.specs.Tables.{Tables}
 use Rattle.profile.specs.Fixed.{fixed_tables}
 use Rattle.profile.specs.Sheets.{lines_tables}
-use Rattle.profile.specs.Parsing.{parsing}
-use Rattle.profile.specs.SheetRefusals.{sheet_told}
-use Rattle.verifier.specs.Signed.{Signed, signed}
+use Rattle.profile.specs.Parsing.{parse_answer}
+use Rattle.profile.specs.SheetRefusals.{sheet_report_of}
+use Rattle.verifier.specs.Signed.{Triple, triple}
 use Rattle.verifier.specs.Pinned.{is_pinned}
 use Rattle.plain.specs.Edits.{Edit as call}
 use Rattle.plain.specs.Steps.{Step}
@@ -37,19 +37,19 @@ shortest_rows =
     (record { count = 1; header = 10; span = 12 })
 
 -- the profile of client-server keys
-abbrev pub csk : Result Tables Told
+abbrev pub csk : Result Tables Report
 csk = Ok (fixed_tables Csk)
 
 -- a sheet that asks for SIGN alone
 abbrev sheet_text : List ℕ
 sheet_text = codes "slot least most rank" ++ (10 ∷ (codes "11 1 1 0" ++ (10 ∷ [])))
 
-abbrev pub sheet : Result Tables Told
-sheet = map_err sheet_told (map_ok lines_tables (parsing sheet_text))
+abbrev pub sheet : Result Tables Report
+sheet = map_err sheet_report_of (map_ok lines_tables (parse_answer sheet_text))
 
 -- passes no signer, the twelve bytes before the signature, and the signature
-abbrev pub pinned : Signed → Bool
-pinned = is_pinned (signed [] (take 12 (shortest 0x01)) (0xaa ∷ []))
+abbrev pub pinned : Triple → Bool
+pinned = is_pinned (triple [] (take 12 (shortest 0x01)) (0xaa ∷ []))
 
 -- a header without sessions
 abbrev pub head : Step

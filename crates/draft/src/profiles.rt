@@ -1,6 +1,6 @@
 // The profile that a close is given by name.
 use crate::fault::Fault;
-use profile::{Choice, Sheet, SheetRefusal};
+use profile::{AnyProfile, Sheet, SheetRefusal};
 use script::Line;
 use std::{fs, io};
 use thiserror::Error;
@@ -22,9 +22,9 @@ fn sheet(rt: &HostRuntime, file: &str) -> Result<Sheet, NoSheet> {
 }
 
 // The sheet of a file; standard error tells why there is none.
-fn sheet_of(rt: &HostRuntime, file: &str) -> Result<Choice, Fault> {
+fn sheet_of(rt: &HostRuntime, file: &str) -> Result<AnyProfile, Fault> {
     match sheet(rt, file) {
-        Ok(sheet) => Ok(Choice::Sheet(sheet)),
+        Ok(sheet) => Ok(AnyProfile::Sheet(sheet)),
         Err(why) => {
             eprintln!(rt; "{file}: {why}")?;
             Err(Fault::NoCall)
@@ -33,15 +33,15 @@ fn sheet_of(rt: &HostRuntime, file: &str) -> Result<Choice, Fault> {
 }
 
 // A fixed profile, or the sheet of a file.
-fn profile_of(rt: &HostRuntime, name: &str) -> Result<Choice, Fault> {
+fn profile_of(rt: &HostRuntime, name: &str) -> Result<AnyProfile, Fault> {
     if let Ok(fixed) = name.parse() {
-        return Ok(Choice::Fixed(fixed));
+        return Ok(AnyProfile::Fixed(fixed));
     }
     sheet_of(rt, name.strip_prefix("sheet:").ok_or(Fault::NoCall)?)
 }
 
 // The profile that a line names, if it is a close.
-pub fn profile_in(rt: &HostRuntime, line: &Line<'_>) -> Result<Option<Choice>, Fault> {
+pub fn profile_in(rt: &HostRuntime, line: &Line<'_>) -> Result<Option<AnyProfile>, Fault> {
     match line {
         Line::Close { profile, .. } => Ok(Some(profile_of(rt, profile)?)),
         _ => Ok(None),

@@ -4,7 +4,7 @@ use crate::fault::Fault;
 use crate::profiles::profile_in;
 use drafter::{State, begin};
 use plain::{Call, Reply};
-use profile::Choice;
+use profile::AnyProfile;
 use script::{Line, ReadLine, Room, parse, read};
 use std::io;
 use std::iter::Zip;
@@ -17,7 +17,7 @@ fn tell(rt: &HostRuntime, reply: Reply, encoding: &[u8]) -> io::Result<()> {
         Reply::Done => println!(rt; "ok")?,
         Reply::Delivered(length) | Reply::Released(length) => println!(rt; "ok {length}")?,
         Reply::Refused(refusal) => {
-            let told = refusal.told();
+            let told = refusal.report();
             println!(rt; "refused {told}")?
         }
         Reply::Misplaced => println!(rt; "misplaced")?,
@@ -39,7 +39,7 @@ fn told<'a>(rt: &HostRuntime, state: State<'a>, reply: Reply) -> Obeyed<'a> {
     (state, printed)
 }
 
-fn make<'a>(rt: &HostRuntime, state: State<'a>, call: &Call<'_, Choice>) -> Obeyed<'a> {
+fn make<'a>(rt: &HostRuntime, state: State<'a>, call: &Call<'_, AnyProfile>) -> Obeyed<'a> {
     let (next, reply) = state.call(call);
     told(rt, next, reply)
 }
@@ -62,12 +62,7 @@ fn make_line<'a>(
 }
 
 // A second begin is misplaced.
-fn obey_in<'a>(
-    rt: &HostRuntime,
-    state: State<'a>,
-    text: &str,
-    scratch: &mut [u8],
-) -> Obeyed<'a> {
+fn obey_in<'a>(rt: &HostRuntime, state: State<'a>, text: &str, scratch: &mut [u8]) -> Obeyed<'a> {
     let line = match read(text, scratch) {
         Ok(line) => line,
         Err(error) => return (state, Err(error.into())),

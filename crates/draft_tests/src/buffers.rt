@@ -1,4 +1,5 @@
-// Whole buffers: of each length, filled to the last byte, and after edits that take more or less room.
+// Whole buffers: of each length, filled to the last byte, and after edits that take more or less
+// room.
 use crate::stations::{HEADER, RAND, head, holds, set};
 use drafter::begin;
 use plain::Head;
@@ -32,7 +33,8 @@ fn buffers_of_each_length(rt: HostRuntime) {
     assert!(rt; holds(&buffer, &HEADER, 7));
 }
 
-// Fills a buffer of N bytes, each 7 at first, with a header and an IDR of 8,182 bytes. Then one of two bytes, which has room only if the first had none.
+// Fills a buffer of N bytes, each 7 at first, with a header and an IDR of 8,182 bytes. Then one of
+// two bytes, which has room only if the first had none.
 fn filled<const N: usize>() -> ([Result<(), Refusal>; 3], [u8; N]) {
     let mut body = [9u8; 8181];
     body[..4].copy_from_slice(&[1, 1, 0x1f, 0xf1]);

@@ -1,4 +1,5 @@
-// Tests of drafts: their buffers, their edits, how they go out, the calls that each state takes, lists of calls, and messages drafted again.
+// Tests of drafts: their buffers, their edits, how they go out, the calls that each state takes,
+// lists of calls, and messages drafted again.
 #![tactic(auto)]
 
 #[cfg(test)]

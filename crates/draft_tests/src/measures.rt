@@ -6,7 +6,10 @@ use wire::{Kind, Refusal};
 fn bodies_and_maps_are_measured(rt: HostRuntime) {
     assert_eq!(rt; extent(Kind::Rand, &[3]), 4);
     assert_eq!(rt; body_length(Kind::Rand, 5, &[1, 9, 9]), Ok(2));
-    assert_eq!(rt; body_length(Kind::Rand, 5, &[3]), Err(Refusal::PayloadCut(5)));
+    assert_eq!(rt;
+        body_length(Kind::Rand, 5, &[3]),
+        Err(Refusal::PayloadCut(5))
+    );
     assert!(rt; map_fits(0, 1));
     assert!(rt; !map_fits(5, 2));
     assert_eq!(rt; info_length(1, &[0; 7]), Ok(6));

@@ -38,7 +38,8 @@ pub(crate) fn message(signature: [u8; 4]) -> [u8; 16] {
     [1, 26, 4, 1, 32, 0, 0, 1, 0, 1, 0x20, 4, a, b, c, d]
 }
 
-// A buffer begins with bytes, and has zeros behind them up to the 8,192nd, and `rest` from there on.
+// A buffer begins with bytes, and has zeros after them up to the 8,192nd, and `rest` from there
+// on.
 pub(crate) fn holds(buffer: &[u8], bytes: &[u8], rest: u8) -> bool {
     let (counted, past) = buffer.split_at(buffer.len().min(8192));
     counted.starts_with(bytes)

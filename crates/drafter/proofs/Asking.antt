@@ -9,16 +9,16 @@ use Rattle.wire.specs.Messages.{Header, Payload}
 use Rattle.wire.specs.Answers.{Answer, check, and_then}
 use Rattle.wire.proofs.Answers.{check_ok, and_then_ok, same_ok, found}
 use Rattle.plain.specs.Drafts.{Held, bytes_of}
-use Rattle.plain.specs.Offers.{asked, offering}
-use Rattle.plain.specs.Edits.{header_of}
+use Rattle.plain.specs.Offers.{check_answer, payload_offer}
+use Rattle.plain.specs.Edits.{header_answer}
 use Rattle.plain.specs.Edits.Edit.{add}
-use Rattle.plain.proofs.Joints.{lengths, lengths_append, lengths_one, front_long}
+use Rattle.plain.proofs.Append.{lengths, lengths_append, lengths_one, front_long}
 use Rattle.plain.proofs.Offers.{offered_is}
-use Rattle.plain.proofs.Keeping.{header_found}
+use Rattle.plain.proofs.LawfulDraft.{header_found}
 use Rattle.drafter.specs.declared.state.Core.{Core}
-use Rattle.drafter.specs.Cores.{header_size, plain_of, Shown}
-use Rattle.drafter.specs.Edits.{placing, asking}
-use Rattle.drafter.proofs.Showing.{end_is}
+use Rattle.drafter.specs.Cores.{header_size, plain_of, IsRepresented}
+use Rattle.drafter.specs.Edits.{position_answer, edit_check}
+use Rattle.drafter.proofs.Represents.{end_is}
 
 some_header : (o : Option Header) → 0 < header_size o → (h : Header) × (o ≡ Some h)
 some_header None l = absurd (omega arith)
@@ -35,16 +35,16 @@ lengths_inserted ps i p =
 
 -- a payload that is offered at a position: for one thing after the other
 abbrev pub offered_at : Option Header → Bool → Answer Payload → Bool → (Payload → Bool) → (Payload → Held) → Answer Held
-offered_at o a r f fits held = and_then (header_of o) (λ _. check a NoPosition (and_then r (λ p. check f DraftFull (check (fits p) NoRoom (Ok (held p))))))
+offered_at o a r f fits held = and_then (header_answer o) (λ _. check a NoPosition (and_then r (λ p. check f DraftFull (check (fits p) NoRoom (Ok (held p))))))
 
 -- the same of what is asked alone
 abbrev pub asking_first : Option Header → Bool → Answer Payload → Bool → Bool → Answer (Unit {0})
 asking_first o a r f m =
-    and_then (and_then (header_of o) (λ _. check {A = Unit {0}} a NoPosition (Ok tt))) (λ _. and_then (asked r) (λ _. check f DraftFull (check m NoRoom (Ok tt))))
+    and_then (and_then (header_answer o) (λ _. check {A = Unit {0}} a NoPosition (Ok tt))) (λ _. and_then (check_answer r) (λ _. check f DraftFull (check m NoRoom (Ok tt))))
 
 pub offered_asked : (o : Option Header) (a : Bool) (r : Answer Payload) (f m : Bool) (fits : Payload → Bool) (held : Payload → Held)
     → ((h : Header) (p : Payload) → o ≡ Some h → a ≡ true → r ≡ Ok p → fits p ≡ m)
-    → asking_first o a r f m ≡ asked (offered_at o a r f fits held)
+    → asking_first o a r f m ≡ check_answer (offered_at o a r f fits held)
 offered_asked None a r f m fits held k = refl
 offered_asked (Some h) false r f m fits held k = refl
 offered_asked (Some h) true (Err e) f m fits held k = refl
@@ -63,10 +63,10 @@ pub record Offered (o : Option Header) (a : Bool) (r : Answer Payload) (f : Bool
   pub result : offered_at o a r f fits held ≡ Ok (held payload)
 
 pub offered : (o : Option Header) (a : Bool) (r : Answer Payload) (f : Bool) (fits : Payload → Bool) (held : Payload → Held)
-    → ◌≡◌ {A = Answer (Unit {0})} (Ok tt) (asked (offered_at o a r f fits held)) → Offered o a r f fits held
+    → ◌≡◌ {A = Answer (Unit {0})} (Ok tt) (check_answer (offered_at o a r f fits held)) → Offered o a r f fits held
 offered o a r f fits held e =
     let x = found (offered_at o a r f fits held) (λ _. tt) tt e in
-    let h = and_then_ok (header_of o) _ x.0 x.1 in
+    let h = and_then_ok (header_answer o) _ x.0 x.1 in
     let b = check_ok a _ _ x.0 h.2 in
     let q = and_then_ok r _ x.0 b.1 in
     let g = check_ok f _ _ x.0 q.2 in
@@ -84,21 +84,21 @@ offered o a r f fits held e =
 pub room_left : (counted end n : ℕ) → leb (end + (1 + n)) counted ≡ ltb n (counted - end)
 room_left counted end n = grind (arith, leb_tells)
 
-module _ (c : Core) (w : Shown c) where
+module _ (c : Core) (w : IsRepresented c) where
   abbrev d : Held
   d = (plain_of c).held
 
   pub with_header : 0 < c.header → (h : Header) × (d.header ≡ Some h)
   with_header l = some_header d.header (omega (arith, w.header))
 
-  pub placed : (i places : ℕ) → ◌≡◌ {A = Answer (Unit {0})} (Ok tt) (placing i places c) → (h : Header) × ((d.header ≡ Some h) × (i < places))
+  pub placed : (i places : ℕ) → ◌≡◌ {A = Answer (Unit {0})} (Ok tt) (position_answer i places c) → (h : Header) × ((d.header ≡ Some h) × (i < places))
   placed i places a =
-      let x = and_then_ok (header_of d.header) _ tt (sym a) in
+      let x = and_then_ok (header_answer d.header) _ tt (sym a) in
       let b = check_ok (ltb i places) _ _ tt x.2 in
       (x.0, (header_found d.header x.0 x.1, ltb-true _ _ b.0))
 
   module _ (i code : ℕ) (body : List ℕ) where
-    pub longer : (h : Header) (p : Payload) → d.header ≡ Some h → offering code body ≡ Ok p → length (bytes_of d.header (insert d.payloads i p) None) ≡ c.end + (1 + length body)
+    pub longer : (h : Header) (p : Payload) → d.header ≡ Some h → payload_offer code body ≡ Ok p → length (bytes_of d.header (insert d.payloads i p) None) ≡ c.end + (1 + length body)
     longer h p e is =
         let a = front_long 0 h (insert d.payloads i p) in
         let b = front_long 0 h d.payloads in
@@ -111,16 +111,16 @@ module _ (c : Core) (w : Shown c) where
     -- what an add is refused for, by the draft's numbers
     abbrev pub adding : Answer (Unit {0})
     adding =
-        and_then (placing i (c.count + 1) c) (λ _.
-        and_then (asked (offering code body)) (λ _.
+        and_then (position_answer i (c.count + 1) c) (λ _.
+        and_then (check_answer (payload_offer code body)) (λ _.
         check (ltb c.count 23) DraftFull
         (check (ltb (length body) (c.counted - c.end)) NoRoom (Ok tt))))
 
-    pub add_told : {r : Answer (Unit {0})} → r ≡ adding → r ≡ asking (add i code body) c
+    pub add_told : {r : Answer (Unit {0})} → r ≡ adding → r ≡ edit_check (add i code body) c
     add_told told =
         let t : ltb i (c.count + 1) ≡ leb i (length d.payloads) = ap (λ n. ltb i (n + 1)) w.count ∙ ap (ltb i) (add-one (length d.payloads)) ∙ leb-suc-suc i (length d.payloads) in
         let f : ltb c.count 23 ≡ ltb (length d.payloads) 23 = ap (λ n. ltb n 23) w.count in
-        told ∙ ap₂ (λ a b. asking_first d.header a (offering code body) b (ltb (length body) (c.counted - c.end))) t f
-        ∙ offered_asked d.header (leb i (length d.payloads)) (offering code body) (ltb (length d.payloads) 23) (ltb (length body) (c.counted - c.end))
+        told ∙ ap₂ (λ a b. asking_first d.header a (payload_offer code body) b (ltb (length body) (c.counted - c.end))) t f
+        ∙ offered_asked d.header (leb i (length d.payloads)) (payload_offer code body) (ltb (length d.payloads) 23) (ltb (length body) (c.counted - c.end))
         (λ p. leb (length (bytes_of d.header (insert d.payloads i p) None)) c.counted) (λ p. record { header = d.header; payloads = insert d.payloads i p })
         (λ h p e _ q. ap (λ n. leb n c.counted) (longer h p e q) ∙ room_left c.counted c.end (length body))

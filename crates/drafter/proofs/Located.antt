@@ -1,14 +1,14 @@
 -- The spots of a draft in its buffer.
 use Rattle.std.proofs.Common.{◌≡◌, ℕ, ◌+◌, ◌<◌, ◌≤◌, List, [], ◌∷◌, length, take, drop, Some, ap, ◌∙◌, ap₂, arith, length-drop, take-append-drop, length-take}
-use Rattle.wire.specs.Messages.{Header, Payload, front}
-use Rattle.plain.specs.Drafts.{standing}
-use Rattle.plain.proofs.Joints.{lengths, lengths_append, front_long, naming_within}
+use Rattle.wire.specs.Messages.{Header, Payload, unsigned_bytes}
+use Rattle.plain.specs.Drafts.{stage_sign}
+use Rattle.plain.proofs.Append.{lengths, lengths_append, front_long, naming_within}
 use Rattle.drafter.specs.declared.state.Core.{Core}
-use Rattle.drafter.specs.declared.spot.Spot.{Spot}
-use Rattle.drafter.specs.Spots.{spot_at}
-use Rattle.drafter.specs.Cores.{header_size, plain_of, Shown}
-use Rattle.drafter.proofs.Spotting.{spot_behind, spot_there}
-use Rattle.drafter.proofs.Showing.{ending, bare_of, records_are, end_is}
+use Rattle.drafter.specs.declared.location.Location.{Location}
+use Rattle.drafter.specs.Locations.{location_at}
+use Rattle.drafter.specs.Cores.{header_size, plain_of, IsRepresented}
+use Rattle.drafter.proofs.Locating.{spot_behind, spot_there}
+use Rattle.drafter.proofs.Represents.{ending, bare_of, records_are, end_is}
 
 some_long : (ps : List Payload) → 0 < length ps → 0 < lengths ps
 unfolding lengths
@@ -22,31 +22,31 @@ fewer_long ps i h =
     let b = ap lengths (take-append-drop i ps) in
     omega (arith, some_long (drop i ps) (simp length-drop (omega arith)))
 
-module _ (c : Core) (w : Shown c) (h : Header) (e : (plain_of c).held.header ≡ Some h) where
+module _ (c : Core) (w : IsRepresented c) (h : Header) (e : (plain_of c).held.header ≡ Some h) where
   abbrev ps : List Payload
   ps = (plain_of c).held.payloads
 
   abbrev end : ℕ
-  end = ending (standing (plain_of c).stage)
+  end = ending (stage_sign (plain_of c).stage)
 
-  pub records : take c.end c.buffer.now ≡ front end h ps
+  pub records : take c.end c.buffer.now ≡ unsigned_bytes end h ps
   records = records_are (plain_of c) c w ∙ ap (λ x. bare_of end x ps) e
 
   header_long : c.header ≡ 10 + length h.map_info
   header_long = w.header ∙ ap header_size e
 
-  pub located : (i : ℕ) → i ≤ c.count → spot_at c.header i (take c.end c.buffer.now) ≡ spot_behind h (take i ps)
-  located i l = ap₂ (λ n x. spot_at n i x) header_long records ∙ spot_there end h ps i w.kept.sound.payloads (omega (arith, w.count))
+  pub located : (i : ℕ) → i ≤ c.count → location_at c.header i (take c.end c.buffer.now) ≡ spot_behind h (take i ps)
+  located i l = ap₂ (λ n x. location_at n i x) header_long records ∙ spot_there end h ps i w.kept.sound.payloads (omega (arith, w.count))
 
-  pub located_within : (i : ℕ) → i < c.count → (spot_at c.header i (take c.end c.buffer.now)).at < length (take c.end c.buffer.now)
+  pub located_within : (i : ℕ) → i < c.count → (location_at c.header i (take c.end c.buffer.now)).at < length (take c.end c.buffer.now)
   located_within i l =
       let a = front_long 0 h (take i ps) in
       let b = front_long end h ps in
       omega (arith, ap (λ s. s.at) (located i (omega arith)), ap length records, fewer_long ps i (omega (arith, w.count)))
 
-  pub spot_bounds : (i : ℕ) → i ≤ c.count → let s : Spot = spot_at c.header i (take c.end c.buffer.now) in (s.naming < s.at) × (s.at ≤ c.end)
-  spot_bounds i l =
-      let at : (spot_at c.header i (take c.end c.buffer.now)).at ≡ length (front 0 h (take i ps)) = ap (λ s. s.at) (located i l) in
+  pub location_bounds : (i : ℕ) → i ≤ c.count → let s : Location = location_at c.header i (take c.end c.buffer.now) in (s.naming < s.at) × (s.at ≤ c.end)
+  location_bounds i l =
+      let at : (location_at c.header i (take c.end c.buffer.now)).at ≡ length (unsigned_bytes 0 h (take i ps)) = ap (λ s. s.at) (located i l) in
       let whole = end_is c w h e in
       let a = front_long 0 h (take i ps) in
       let b = front_long 0 h ps in
@@ -54,8 +54,8 @@ module _ (c : Core) (w : Shown c) (h : Header) (e : (plain_of c).held.header ≡
       let q = ap lengths (take-append-drop i ps) in
       (omega (arith, ap (λ s. s.naming) (located i l), naming_within 0 h (take i ps)), omega arith)
 
-pub records_few : (c : Core) → Shown c → length (take c.end c.buffer.now) ≤ 8192
+pub records_few : (c : Core) → IsRepresented c → length (take c.end c.buffer.now) ≤ 8192
 records_few c w = simp length-take (omega (arith, w.end, w.counted, w.kept.sound.fits))
 
-pub header_some : (c : Core) → Shown c → (h : Header) → (plain_of c).held.header ≡ Some h → 0 < c.header
+pub header_some : (c : Core) → IsRepresented c → (h : Header) → (plain_of c).held.header ≡ Some h → 0 < c.header
 header_some c w h e = omega (arith, w.header ∙ ap header_size e)

@@ -1,5 +1,5 @@
 pub mod Buffers
-pub mod Spots
+pub mod Locations
 pub mod Cores
 pub mod Edits
 pub mod Signs

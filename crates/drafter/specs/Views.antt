@@ -3,12 +3,12 @@ use Rattle.std.specs.Prelude.{◌≡◌, ℕ, List}
 use Rattle.std.specs.Borrow.{GName}
 use Rattle.wire.specs.Answers.{Answer}
 use Rattle.plain.specs.declared.calls.Reply.{Reply}
-use Rattle.plain.specs.Drafts.{Draft, counted}
+use Rattle.plain.specs.Drafts.{Draft, counted_length}
 use Rattle.plain.specs.Edits.{Edit}
 use Rattle.plain.specs.Edits.Edit.{head}
 use Rattle.plain.specs.Steps.{Step, step}
 use Rattle.plain.specs.Steps.Step.{edit, sign}
-use Rattle.plain.specs.Turns.{Turns, settled, delivering}
+use Rattle.plain.specs.Effects.{CallEffect, edit_reply, sign_reply}
 use Rattle.drafter.specs.declared.state.Core.{Core}
 
 pub record View : Type 0 where
@@ -21,19 +21,19 @@ view_at s c = record { plain = s; bytes = c.buffer.now; lent = c.buffer.ghost_na
 
 -- what the plain draft's step answers
 abbrev pub reply_of : Step → View → Reply
-reply_of c v = (step (counted v.bytes) v.plain c).reply
+reply_of c v = (step (counted_length v.bytes) v.plain c).reply
 
 -- a call turns a draft into another, with this reply, in the buffer that was lent
-pub record Turned (c : Step) (before after : View) (reply : Reply) : Type 0 where
-  pub turns : Turns c before.plain after.plain before.bytes after.bytes reply
+pub record ViewEffect (c : Step) (before after : View) (reply : Reply) : Type 0 where
+  pub turns : CallEffect c before.plain after.plain before.bytes after.bytes reply
   pub name : after.lent ≡ before.lent
 
 -- the same of an edit, and of a signature, by what they answer
 abbrev pub TurnedByEdit : Edit → View → View → Answer (Unit {0}) → Type 0
-TurnedByEdit x before after answer = Turned (edit x) before after (settled answer)
+TurnedByEdit x before after answer = ViewEffect (edit x) before after (edit_reply answer)
 
 abbrev pub TurnedBySign : List ℕ → View → View → Answer ℕ → Type 0
-TurnedBySign s before after answer = Turned (sign s) before after (delivering answer)
+TurnedBySign s before after answer = ViewEffect (sign s) before after (sign_reply answer)
 
 -- the edit that sets a header of these fields
 abbrev pub head_with : ℕ → ℕ → ℕ → ℕ → List ℕ → Edit

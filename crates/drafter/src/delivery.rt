@@ -1,16 +1,16 @@
 // A signature that is written.
 ghost use Rattle.std.specs.Prelude.{◌≡◌};
-ghost use Rattle.drafter.specs.Signs.{Signed, delivered_by};
+ghost use Rattle.drafter.specs.Signs.{HasSign, delivered_by};
 ghost use Rattle.drafter.specs.Calls.{MakesSign};
 
-use crate::buffer::lay;
+use crate::buffer::write_at;
 use crate::state::{Core, Outcome};
 use wire::Refusal;
 
 impl<'a> Core<'a> {
     // A signature of the length that close was given goes in its place.
     pub(crate) fn deliver(&mut self, signature: &[u8]) -> Result<usize, Refusal>
-        requires { Signed self.old }
+        requires { HasSign self.old }
         ensures { MakesSign signature.now self.old self.new result }
     {
         let start = self.end + 2;
@@ -18,7 +18,7 @@ impl<'a> Core<'a> {
         if signature.len() != full - start {
             return Err(Refusal::SignatureLength);
         }
-        lay(self.buffer, start, signature);
+        write_at(self.buffer, start, signature);
         Ok(full)
     }
 }

@@ -2,18 +2,18 @@
 ghost use Rattle.std.specs.Prelude.{◌≡◌, ◌+◌, ◌<◌, ◌≤◌, take, IfOk, ⊤};
 ghost use Rattle.plain.specs.Edits.{Edit as PlainEdit};
 ghost use Rattle.plain.specs.Edits.Edit.{head as head_edit, add as add_edit, replace as replace_edit, remove as remove_edit};
-ghost use Rattle.plain.specs.Offers.{asked};
-ghost use Rattle.plain.specs.Steps.{headed};
-ghost use Rattle.plain.specs.Kept.{EditWidths};
+ghost use Rattle.plain.specs.Offers.{check_answer};
+ghost use Rattle.plain.specs.Steps.{header_of_head};
+ghost use Rattle.plain.specs.LawfulDrafts.{EditWidths};
 ghost use Rattle.drafter.specs.declared.state.Core.{Core};
-ghost use Rattle.drafter.specs.Spots.{spot_at};
-ghost use Rattle.drafter.specs.Cores.{Shown};
-ghost use Rattle.drafter.specs.Edits.{Editable, PartAt, first_in, placing, asking, Accepted, Leaves};
+ghost use Rattle.drafter.specs.Locations.{location_at};
+ghost use Rattle.drafter.specs.Cores.{IsRepresented};
+ghost use Rattle.drafter.specs.Edits.{IsEditable, RegionAt, first_in, position_answer, edit_check, IsAccepted, EditLeaves};
 ghost use Rattle.drafter.specs.Calls.{MakesEdit};
 
-use crate::buffer::{place, put_header, take_out};
-use crate::offer::{ask_map, ask_payload};
-use crate::spot::{Part, Spot, find, size_at};
+use crate::buffer::{delete, place, put_header};
+use crate::checks::{check_map, check_payload};
+use crate::location::{Location, Region, locate, size_at};
 use crate::state::Core;
 use plain::Head;
 use wire::{MOST_PAYLOADS, Refusal};
@@ -31,16 +31,16 @@ pub(crate) trait Edit {
     ghost finds: { Self → Core → Self.Found → Type 0 } = { λ _ _ _. ⊤ };
 
     fn ask(&self, core: &Core<'_>) -> Result<Self::Found, Refusal>
-        requires { Editable core.now }
-        ensures answer { asked result ≡ asking (edit self.now) core.now }
+        requires { IsEditable core.now }
+        ensures answer { check_answer result ≡ edit_check (edit self.now) core.now }
         ensures found { IfOk result (finds self.now core.now) };
 
     fn make(&self, core: &mut Core<'_>, found: Self::Found)
-        requires draft { Editable core.old }
-        requires asked { Accepted (edit self.now) core.old }
+        requires draft { IsEditable core.old }
+        requires asked { IsAccepted (edit self.now) core.old }
         requires widths { EditWidths (edit self.now) }
         requires found { finds self.now core.old found }
-        ensures { Leaves (edit self.now) core.old core.new };
+        ensures { EditLeaves (edit self.now) core.old core.new };
 }
 
 // A payload of this code and body at a position; the later ones follow it.
@@ -70,7 +70,7 @@ pub(crate) struct Remove {
 impl<'a> Core<'a> {
     // Asks an edit, and makes it if it is not refused.
     pub(crate) fn edit<E: Edit>(&mut self, edit: &E) -> Result<(), Refusal>
-        requires draft { Editable self.old }
+        requires draft { IsEditable self.old }
         requires widths { EditWidths (E.edit edit.now) }
         ensures { MakesEdit (E.edit edit.now) self.old self.new result }
     {
@@ -79,42 +79,42 @@ impl<'a> Core<'a> {
         Ok(())
     }
 
-    // The spot of the payload at a position, or the one behind the last.
-    pub(crate) fn spot(&self, position: usize) -> Spot
-        requires draft { Shown self.now }
+    // The spot of the payload at a position, or the one after the last.
+    pub(crate) fn location(&self, position: usize) -> Location
+        requires draft { IsRepresented self.now }
         requires there { (0 < self.now.header) × (position ≤ self.now.count) }
-        ensures is { result ≡ spot_at self.now.header position
+        ensures is { result ≡ location_at self.now.header position
             (take self.now.end self.now.buffer.now) }
         ensures within { (result.naming < result.at) × (result.at ≤ self.now.end) }
     {
         let end = self.end;
-        find(&self.buffer[..end], self.header, position)
+        locate(&self.buffer[..end], self.header, position)
     }
 
     // The payload at a position.
-    fn part(&self, position: usize) -> Part
-        requires draft { Editable self.now }
+    fn region(&self, position: usize) -> Region
+        requires draft { IsEditable self.now }
         requires there { (0 < self.now.header) × (position < self.now.count) }
-        ensures { PartAt self.now position result }
+        ensures { RegionAt self.now position result }
     {
-        let spot = self.spot(position);
+        let location = self.location(position);
         let end = self.end;
-        Part {
-            spot,
-            size: size_at(&self.buffer[..end], spot),
-            next: self.buffer[spot.at],
+        Region {
+            location,
+            size: size_at(&self.buffer[..end], location),
+            next: self.buffer[location.at],
         }
     }
 
     // The code of the first payload, or 0.
     fn first(&self) -> u8
-        requires { Editable self.now }
+        requires { IsEditable self.now }
         ensures { result ≡ first_in self.now }
     {
         if self.header == 0 { 0 } else { self.buffer[2] }
     }
 
-    // The payloads end there, and no SIGN stands behind them.
+    // The payloads end there, and no SIGN stands after them.
     fn end_at(&mut self, end: usize)
         ensures { self.new ≡ record self.old { end = end; full = end } }
     {
@@ -123,9 +123,9 @@ impl<'a> Core<'a> {
     }
 
     // What an edit at one of the first `places` positions is refused for before all else.
-    fn ask_position(&self, position: usize, places: usize) -> Result<(), Refusal>
-        requires { Shown self.now }
-        ensures { result ≡ placing position places self.now }
+    fn check_position(&self, position: usize, places: usize) -> Result<(), Refusal>
+        requires { IsRepresented self.now }
+        ensures { result ≡ position_answer position places self.now }
     {
         if self.header == 0 {
             return Err(Refusal::NoHeader);
@@ -144,8 +144,8 @@ impl Edit for Add<'_> {
 
     #[tactic(auto, using(crate::proofs::Asking::add_told, std::proofs::lemmas::Bool::Decides::nat_tests))]
     fn ask(&self, core: &Core<'_>) -> Result<(), Refusal> {
-        core.ask_position(self.position, core.count + 1)?;
-        ask_payload(self.code, self.body)?;
+        core.check_position(self.position, core.count + 1)?;
+        check_payload(self.code, self.body)?;
         if core.count >= MOST {
             return Err(Refusal::DraftFull);
         }
@@ -156,62 +156,62 @@ impl Edit for Add<'_> {
     }
 
     fn make(&self, core: &mut Core<'_>, _found: ()) {
-        let spot = core.spot(self.position);
+        let location = core.location(self.position);
         let end = core.end;
-        let part = Part {
-            spot,
+        let region = Region {
+            location,
             size: 0,
-            next: core.buffer[spot.naming],
+            next: core.buffer[location.naming],
         };
-        place(core.buffer, end, part, self.code, self.body);
+        place(core.buffer, end, region, self.code, self.body);
         core.count += 1;
         core.end_at(end + 1 + self.body.len());
     }
 }
 
 impl Edit for Replace<'_> {
-    type Found = Part;
+    type Found = Region;
 
     ghost edit = { λ x. replace_edit x.position x.code x.body.now };
 
-    ghost finds = { λ x c. PartAt c x.position };
+    ghost finds = { λ x c. RegionAt c x.position };
 
     #[tactic(auto, using(crate::proofs::Replacing::replace_told, std::proofs::lemmas::Bool::Decides::nat_tests))]
-    fn ask(&self, core: &Core<'_>) -> Result<Part, Refusal> {
-        core.ask_position(self.position, core.count)?;
-        ask_payload(self.code, self.body)?;
-        let part = core.part(self.position);
-        let others = core.end - part.size;
+    fn ask(&self, core: &Core<'_>) -> Result<Region, Refusal> {
+        core.check_position(self.position, core.count)?;
+        check_payload(self.code, self.body)?;
+        let region = core.region(self.position);
+        let others = core.end - region.size;
         if self.body.len() >= core.counted - others {
             return Err(Refusal::NoRoom);
         }
-        Ok(part)
+        Ok(region)
     }
 
-    fn make(&self, core: &mut Core<'_>, part: Part) {
+    fn make(&self, core: &mut Core<'_>, region: Region) {
         let end = core.end;
-        place(core.buffer, end, part, self.code, self.body);
-        core.end_at(end - part.size + 1 + self.body.len());
+        place(core.buffer, end, region, self.code, self.body);
+        core.end_at(end - region.size + 1 + self.body.len());
     }
 }
 
 impl Edit for Remove {
-    type Found = Part;
+    type Found = Region;
 
     ghost edit = { λ x. remove_edit x.position };
 
-    ghost finds = { λ x c. PartAt c x.position };
+    ghost finds = { λ x c. RegionAt c x.position };
 
-    fn ask(&self, core: &Core<'_>) -> Result<Part, Refusal> {
-        core.ask_position(self.position, core.count)?;
-        Ok(core.part(self.position))
+    fn ask(&self, core: &Core<'_>) -> Result<Region, Refusal> {
+        core.check_position(self.position, core.count)?;
+        Ok(core.region(self.position))
     }
 
-    fn make(&self, core: &mut Core<'_>, part: Part) {
+    fn make(&self, core: &mut Core<'_>, region: Region) {
         let end = core.end;
-        take_out(core.buffer, end, part);
+        delete(core.buffer, end, region);
         core.count -= 1;
-        core.end_at(end - part.size);
+        core.end_at(end - region.size);
     }
 }
 
@@ -219,11 +219,11 @@ impl Edit for Remove {
 impl Edit for Head<'_> {
     type Found = ();
 
-    ghost edit = { λ x. head_edit (headed x) };
+    ghost edit = { λ x. head_edit (header_of_head x) };
 
     #[tactic(auto, using(crate::proofs::Heading::head_told))]
     fn ask(&self, core: &Core<'_>) -> Result<(), Refusal> {
-        ask_map(self.cs, self.map_type, self.map_info)?;
+        check_map(self.cs, self.map_type, self.map_info)?;
         let room = core.counted - (core.end - core.header);
         if 10 + self.map_info.len() > room {
             return Err(Refusal::NoRoom);

@@ -2,15 +2,15 @@
 #![tactic(auto)]
 
 mod buffer;
+mod checks;
 mod delivery;
 mod edit;
 mod form;
-mod offer;
+mod location;
 mod open;
 mod out;
 mod released;
 mod sign;
-mod spot;
 mod state;
 mod states;
 mod types;

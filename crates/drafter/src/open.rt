@@ -1,11 +1,11 @@
 // An open draft.
 ghost use Rattle.std.specs.Prelude.{◌≡◌};
-ghost use Rattle.plain.specs.Drafts.{begin as begun, image, encoded};
+ghost use Rattle.plain.specs.Drafts.{begin as begun, buffer_of, encoding_of};
 ghost use Rattle.plain.specs.Edits.Edit.{add as add_edit, replace as replace_edit, remove as remove_edit};
 ghost use Rattle.plain.specs.Steps.Step.{close as close_step};
 ghost use Rattle.plain.specs.declared.calls.Reply.TheVariants.{Done};
-ghost use Rattle.plain.specs.Kept.{EditWidths};
-ghost use Rattle.drafter.specs.Views.{Turned, TurnedByEdit, head_with};
+ghost use Rattle.plain.specs.LawfulDrafts.{EditWidths};
+ghost use Rattle.drafter.specs.Views.{ViewEffect, TurnedByEdit, head_with};
 
 use crate::buffer::clear;
 use crate::edit::{Add, Edit, Remove, Replace};
@@ -19,7 +19,7 @@ use wire::{LONGEST, Refusal};
 /// zero, and the rest is never touched.
 pub fn begin<'a>(buffer: &'a mut [u8]) -> Open<'a>
     ensures draft { result.plain ≡ begun }
-    ensures buffer { result.bytes ≡ image buffer.old begun }
+    ensures buffer { result.bytes ≡ buffer_of buffer.old begun }
     ensures lent { result.lent ≡ buffer.entry.ghost_name }
 {
     let counted = buffer.len().min(LONGEST);
@@ -101,7 +101,7 @@ impl<'a> Open<'a> {
 
     /// The encoding of the records held.
     pub fn bytes(&self) -> &[u8]
-        ensures { result.now ≡ encoded self.now.plain }
+        ensures { result.now ≡ encoding_of self.now.plain }
     {
         self.core.encoding()
     }
@@ -109,7 +109,8 @@ impl<'a> Open<'a> {
     /// Goes out, for a signature of `size` bytes. It never refuses: what is wrong is carried, and
     /// sign tells it.
     pub fn close<P: Profile>(self, profile: &P, sign_type: u8, size: usize) -> Out<'a>
-        ensures { Turned (close_step (P.tables profile.now) sign_type size) self.entry result Done }
+        ensures { ViewEffect (close_step (P.tables profile.now) sign_type size) self.entry result
+            Done }
     {
         let Open { mut core } = self;
         let outcome = match core.close(profile, sign_type, size) {

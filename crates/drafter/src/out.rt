@@ -1,10 +1,10 @@
 // A draft that is out.
 ghost use Rattle.std.specs.Prelude.{◌≡◌};
-ghost use Rattle.plain.specs.Drafts.{encoded, spanned};
+ghost use Rattle.plain.specs.Drafts.{encoding_of, draft_span};
 ghost use Rattle.plain.specs.Steps.Step.{sign as sign_step, withdraw as withdraw_step, release as release_step};
 ghost use Rattle.plain.specs.declared.calls.Reply.TheVariants.{Done, Released};
-ghost use Rattle.plain.specs.Kept.{Widths};
-ghost use Rattle.drafter.specs.Views.{Turned, TurnedBySign, reply_of};
+ghost use Rattle.plain.specs.LawfulDrafts.{Widths};
+ghost use Rattle.drafter.specs.Views.{ViewEffect, TurnedBySign, reply_of};
 
 use crate::state::{Core, Outcome};
 use crate::types::{Open, Out};
@@ -13,14 +13,14 @@ use wire::Refusal;
 impl<'a> Out<'a> {
     /// The encoding of the records held, SIGN among them if it stands.
     pub fn bytes(&self) -> &[u8]
-        ensures { result.now ≡ encoded self.now.plain }
+        ensures { result.now ≡ encoding_of self.now.plain }
     {
         self.core.encoding()
     }
 
     /// What the signature is over: everything before it. No bytes if the draft carries a fault.
     pub fn span(&self) -> &[u8]
-        ensures { result.now ≡ spanned self.now.plain }
+        ensures { result.now ≡ draft_span self.now.plain }
     {
         self.core.span()
     }
@@ -43,11 +43,11 @@ impl<'a> Out<'a> {
 
     /// Takes SIGN off, if it stands, and gives the open draft back.
     pub fn withdraw(self) -> Open<'a>
-        ensures { Turned withdraw_step self.entry result Done }
+        ensures { ViewEffect withdraw_step self.entry result Done }
     {
         let Out { mut core, outcome } = self;
         match outcome {
-            Outcome::Signing(_) => core.fall(),
+            Outcome::Signing(_) => core.remove_sign(),
             Outcome::Faulty(_) => {}
         }
         Open { core }

@@ -1,9 +1,9 @@
 // A draft that was released.
 ghost use Rattle.std.specs.Prelude.{◌≡◌};
-ghost use Rattle.plain.specs.Drafts.{encoded};
+ghost use Rattle.plain.specs.Drafts.{encoding_of};
 ghost use Rattle.plain.specs.declared.calls.Reply.TheVariants.{Released as released_reply};
 ghost use Rattle.plain.specs.Steps.Step.{release as release_step};
-ghost use Rattle.drafter.specs.Views.{Turned};
+ghost use Rattle.drafter.specs.Views.{ViewEffect};
 
 use crate::state::Core;
 use crate::types::{Out, Released};
@@ -12,7 +12,7 @@ impl<'a> Released<'a> {
     // Releases a draft that is out. The buffer that it gives back keeps the lengths of what it
     // holds; the length last delivered is beside it.
     pub(crate) fn of(out: Out<'a>) -> (usize, Released<'a>)
-        ensures { Turned release_step out.entry result.1 (released_reply result.0) }
+        ensures { ViewEffect release_step out.entry result.1 (released_reply result.0) }
     {
         let counted = out.core.counted;
         let header = out.core.header;
@@ -33,7 +33,7 @@ impl<'a> Released<'a> {
 
     /// The encoding of the records held, SIGN among them if it stood.
     pub fn bytes(&self) -> &[u8]
-        ensures { result.now ≡ encoded self.now.plain }
+        ensures { result.now ≡ encoding_of self.now.plain }
     {
         self.core.encoding()
     }

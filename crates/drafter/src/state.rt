@@ -1,7 +1,7 @@
 // A draft in its buffer, whichever state it is in.
 ghost use Rattle.std.specs.Prelude.{◌≡◌};
-ghost use Rattle.plain.specs.Drafts.{encoded, spanned};
-ghost use Rattle.drafter.specs.Cores.{plain_of, Shown};
+ghost use Rattle.plain.specs.Drafts.{encoding_of, draft_span};
+ghost use Rattle.drafter.specs.Cores.{plain_of, IsRepresented};
 
 use wire::Refusal;
 
@@ -33,16 +33,16 @@ pub(crate) struct Core<'a> {
 impl<'a> Core<'a> {
     // The encoding of the records held.
     pub(crate) fn encoding(&self) -> &[u8]
-        requires { Shown self.now }
-        ensures { result.now ≡ encoded (plain_of self.now) }
+        requires { IsRepresented self.now }
+        ensures { result.now ≡ encoding_of (plain_of self.now) }
     {
         &self.buffer[..self.full]
     }
 
     // What a signature is over, while SIGN stands.
     pub(crate) fn span(&self) -> &[u8]
-        requires { Shown self.now }
-        ensures { result.now ≡ spanned (plain_of self.now) }
+        requires { IsRepresented self.now }
+        ensures { result.now ≡ draft_span (plain_of self.now) }
     {
         if self.end == self.full {
             return &[];

@@ -1,10 +1,10 @@
 // A draft in whichever state: each call takes it and gives back what it has become.
 ghost use Rattle.std.specs.Prelude.{◌≡◌};
-ghost use Rattle.plain.specs.Drafts.{encoded};
+ghost use Rattle.plain.specs.Drafts.{encoding_of};
 ghost use Rattle.plain.specs.Edits.Edit.{add as add_edit, replace as replace_edit, remove as remove_edit};
-ghost use Rattle.plain.specs.Steps.{called};
+ghost use Rattle.plain.specs.Steps.{call_step};
 ghost use Rattle.plain.specs.Steps.Step.{edit as edit_step, close as close_step, sign as sign_step, withdraw as withdraw_step, release as release_step};
-ghost use Rattle.plain.specs.Kept.{EditWidths, Widths};
+ghost use Rattle.plain.specs.LawfulDrafts.{EditWidths, Widths};
 ghost use Rattle.drafter.specs.Views.{head_with};
 ghost use Rattle.drafter.specs.States.{view_in, StateTurned};
 
@@ -125,8 +125,8 @@ impl<'a> State<'a> {
 impl<'a> State<'a> {
     /// Makes a call. One that the state does not take is misplaced, and changes nothing.
     pub fn call<P: Profile>(self, call: &Call<'_, P>) -> (State<'a>, Reply)
-        ensures turned { StateTurned (called P.Profile.tables call.now) self.entry result }
-        ensures widths { Widths (called P.Profile.tables call.now) }
+        ensures turned { StateTurned (call_step P.Profile.tables call.now) self.entry result }
+        ensures widths { Widths (call_step P.Profile.tables call.now) }
     {
         match *call {
             Call::Head(
@@ -162,7 +162,7 @@ impl<'a> State<'a> {
 
     /// The encoding of the records held.
     pub fn bytes(&self) -> &[u8]
-        ensures { result.now ≡ encoded (view_in self.now).plain }
+        ensures { result.now ≡ encoding_of (view_in self.now).plain }
     {
         match self {
             State::Open(open) => open.bytes(),

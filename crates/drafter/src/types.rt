@@ -2,8 +2,8 @@
 // the view of each; what is true of its fields is said once, by its model.
 ghost use Rattle.plain.specs.Drafts.Stage.{opened};
 ghost use Rattle.drafter.specs.Views.{View, view_at};
-ghost use Rattle.drafter.specs.Cores.{plain_of, plain_at, Shown};
-ghost use Rattle.drafter.specs.Edits.{Editable};
+ghost use Rattle.drafter.specs.Cores.{plain_of, plain_at, IsRepresented};
+ghost use Rattle.drafter.specs.Edits.{IsEditable};
 ghost use Rattle.drafter.specs.Signs.{OutDraft, out_stage};
 
 use crate::state::{Core, Outcome};
@@ -20,7 +20,7 @@ impl<'a> Model for Open<'a> {
 
     ghost view = { λ d. view_at (plain_at opened d.core) d.core };
 
-    ghost invariant = { λ d. Editable d.core };
+    ghost invariant = { λ d. IsEditable d.core };
 }
 
 // Takes signatures. It can't be let go: withdraw or release spends it.
@@ -48,5 +48,5 @@ impl<'a> Model for Released<'a> {
 
     ghost view = { λ d. view_at (plain_of d.core) d.core };
 
-    ghost invariant = { λ d. Shown d.core };
+    ghost invariant = { λ d. IsRepresented d.core };
 }

@@ -1,7 +1,7 @@
 // A message drafted again from its own records.
 ghost use Rattle.std.specs.Prelude.{◌≡◌, ◌≤◌, length};
-ghost use Rattle.plain.specs.Steps.{headed};
-ghost use Rattle.exchange.specs.Redrafts.{Tells, HeaderIn, Drafts, Redrafts};
+ghost use Rattle.plain.specs.Steps.{header_of_head};
+ghost use Rattle.exchange.specs.Redrafts.{IsAdmittedMessageIn, IsHeaderIn, DraftsMessage, Redrafts};
 
 use drafter::begin;
 use plain::Head;
@@ -15,7 +15,7 @@ use wire::{MOST_PAYLOADS, Refusal, Row, Walked};
 fn head_of<'a>(message: &'a [u8], header: usize) -> Head<'a>
     requires least { 10 ≤ header }
     requires inside { header ≤ length message.now }
-    ensures { HeaderIn message.now header (headed result) }
+    ensures { IsHeaderIn message.now header (header_of_head result) }
 {
     Head {
         byte3: message[3],
@@ -35,9 +35,10 @@ fn draft_again<'a, P: Profile>(
     profile: &P,
     buffer: &'a mut [u8],
 ) -> (usize, &'a mut [u8])
-    requires told { Tells (P.tables profile.now) message.now walked.now rows.now }
+    requires told { IsAdmittedMessageIn (P.tables profile.now) message.now walked.now rows.now }
     requires room { length message.now ≤ length buffer.old }
-    ensures drafted { Drafts (P.tables profile.now) message.now buffer.old result.1.now result.0 }
+    ensures drafted { DraftsMessage (P.tables profile.now) message.now buffer.old result.1.now
+        result.0 }
     ensures lent { result.1.ghost_name ≡ buffer.entry.ghost_name }
 {
     let last = walked.count - 1;

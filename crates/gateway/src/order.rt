@@ -13,7 +13,7 @@ use wire::{Refusal, Row};
 
 const PROFILE: &str = "sheet:second";
 
-// All of a payload behind its next-payload byte.
+// All of a payload after its next-payload byte.
 fn body<'a>(message: &'a [u8], row: &Row) -> Result<&'a [u8], Refusal> {
     let Part { bytes, place } = lookup(message, row)?;
     match bytes {

@@ -5,7 +5,7 @@ use plain::{Call, Head, Reply};
 use std::alloc::AllocError;
 use std::fmt::Display;
 use std::io;
-use wire::{Refusal, Row, Told, Walked};
+use wire::{Refusal, Report, Row, Walked};
 
 // Bytes in lower-case digits, `-` for none. The program draft has the same: programs share no
 // crate.
@@ -68,8 +68,8 @@ fn call<P>(rt: &HostRuntime, call: &Call<'_, P>, profile: &str) -> io::Result<()
 }
 
 /// Number, place and detail, and the words.
-pub fn refused<R: Copy + Display + Into<Told>>(rt: &HostRuntime, refusal: R) -> io::Result<()> {
-    let told: Told = refusal.into();
+pub fn refused<R: Copy + Display + Into<Report>>(rt: &HostRuntime, refusal: R) -> io::Result<()> {
+    let told: Report = refusal.into();
     println!(rt; "    refused {told} {refusal}")
 }
 

@@ -3,13 +3,13 @@ use Rattle.std.proofs.Common.{◌≡◌, ℕ, suc, ◌+◌, ◌-◌, ◌<◌, �
 use Rattle.wire.specs.declared.refusal.Refusal.{Refusal}
 use Rattle.wire.specs.Answers.{Answer, map_ok, and_then}
 use Rattle.wire.specs.Extents.{session_at}
-use Rattle.wire.specs.Walking.{sessions}
+use Rattle.wire.specs.Walking.{sessions_answer}
 use Rattle.wire.proofs.Answers.{found, refused}
 
 -- the turns of the loop: i of the sessions end at `at`
 module _ (bs : List ℕ) (count i at : ℕ) where
   abbrev Left : Answer ℕ
-  Left = map_ok (λ info. at + length info) (sessions (count - i) at (drop at bs))
+  Left = map_ok (λ info. at + length info) (sessions_answer (count - i) at (drop at bs))
 
   abbrev Front : Answer (List ℕ)
   Front = session_at at (drop at bs)
@@ -22,17 +22,17 @@ module _ (bs : List ℕ) (count i at : ℕ) where
   joined s (Err f) = refl
 
   pub session_next : i < count → (n : ℕ) → Ok n ≡ map_ok length Front
-      → map_ok (λ info. at + n + length info) (sessions (count - (i + 1)) (at + n) (drop (at + n) bs)) ≡ Left
-  unfolding sessions
+      → map_ok (λ info. at + n + length info) (sessions_answer (count - (i + 1)) (at + n) (drop (at + n) bs)) ≡ Left
+  unfolding sessions_answer
   session_next h n e =
       let p = found (session_at at (drop at bs)) length n e in
-      sym (rw (one_more h, p.1) (joined p.0 (sessions (count - (i + 1)) (at + length p.0) (drop (length p.0) (drop at bs)))
+      sym (rw (one_more h, p.1) (joined p.0 (sessions_answer (count - (i + 1)) (at + length p.0) (drop (length p.0) (drop at bs)))
       ∙ rw (p.2, drop-drop n at bs)))
 
   pub session_bad : i < count → (f : Refusal) → Err f ≡ map_ok length Front → Err f ≡ Left
-  unfolding sessions
+  unfolding sessions_answer
   session_bad h f e = rw (one_more h, refused (session_at at (drop at bs)) length f e)
 
   pub sessions_end : count ≤ i → Ok at ≡ Left
-  unfolding sessions
+  unfolding sessions_answer
   sessions_end h = let z : at + 0 ≡ at = omega arith in let y : count - i ≡ 0 = omega arith in rw (y, z)

@@ -19,7 +19,7 @@ head [] h = absurd (omega arith)
 head (type ∷ []) h = absurd (omega arith)
 head (type ∷ n ∷ bs) h = refl
 
--- what stands behind its type and length, of which the value takes n bytes
+-- what stands after its type and length, of which the value takes n bytes
 module _ (bs after : List ℕ) (some : 2 ≤ length bs) (e : after ≡ drop 2 bs) where
   abbrev n : ℕ
   n = get_or bs 1 0

@@ -6,7 +6,7 @@ use Rattle.wire.specs.Octets.{Octets}
 use Rattle.wire.specs.Layouts.{Body, Sessions}
 use Rattle.wire.specs.Answers.{Answer, map_ok}
 use Rattle.wire.specs.Extents.{extent, inside, body_at}
-use Rattle.wire.specs.Walking.{sessions}
+use Rattle.wire.specs.Walking.{sessions_answer}
 use Rattle.wire.proofs.Answers.{found}
 use Rattle.wire.proofs.Numbers.{octets_front}
 use Rattle.wire.proofs.Parts.{part_there, part_back}
@@ -32,11 +32,11 @@ body_measured k at bs y r e = record {
       front (Body k) bs f.0 n b.1 f.2 (body_drawn k f.0 (octets_front bs f.0 (drop (length f.0) bs) y b.1) b.0);
 }
 
-pub sessions_measured : (n : ℕ) (bs : List ℕ) → Octets bs → (r : Answer ℕ) → r ≡ map_ok length (sessions n 0 bs) → Measures (Sessions n) bs r
+pub sessions_measured : (n : ℕ) (bs : List ℕ) → Octets bs → (r : Answer ℕ) → r ≡ map_ok length (sessions_answer n 0 bs) → Measures (Sessions n) bs r
 sessions_measured n bs y r e = record {
-  there = λ p rest d is. e ∙ subst (λ x. map_ok length (sessions n 0 x) ≡ Ok (length p)) is (ap (map_ok length) (sessions_there d 0 rest));
+  there = λ p rest d is. e ∙ subst (λ x. map_ok length (sessions_answer n 0 x) ≡ Ok (length p)) is (ap (map_ok length) (sessions_there d 0 rest));
   back = λ long a.
-      let f = found (sessions n 0 bs) length long (sym a ∙ e) in
+      let f = found (sessions_answer n 0 bs) length long (sym a ∙ e) in
       let b = sessions_back n 0 bs f.0 y f.1 in
       front (Sessions n) bs f.0 long b.rest f.2 b.drawn;
 }

@@ -1,6 +1,6 @@
 // How long a body is by its own length field, and the rule inside it.
 ghost use Rattle.std.specs.Prelude.{◌≡◌, ◌+◌, ◌<◌, ◌≤◌, length, slice_index};
-ghost use Rattle.wire.specs.Answers.{map_ok, reported};
+ghost use Rattle.wire.specs.Answers.{map_ok, outcome_of};
 ghost use Rattle.wire.specs.Octets.{value_at};
 ghost use Rattle.wire.specs.Layouts.{Body};
 ghost use Rattle.wire.specs.Extents.{extent, inside, items, one_sakke, body_at};
@@ -99,7 +99,7 @@ impl Layout for Kind {
 pub fn body_length(kind: Kind, at: usize, rest: &[u8]) -> Result<usize, Refusal>
     ensures answer { result ≡ map_ok length (body_at kind at rest.now) }
     // As it is told: a refusal by its number, place and detail.
-    ensures told { reported result ≡ reported (map_ok length (body_at kind at rest.now)) }
+    ensures told { outcome_of result ≡ outcome_of (map_ok length (body_at kind at rest.now)) }
     // The bodies that are measured are those that the layouts draw.
     ensures drawn { Measures (Body kind) rest.now result }
 {

@@ -6,7 +6,7 @@ ghost use Rattle.std.specs.Prelude.{◌≡◌, drop};
 
 use wire::bytes_from;
 
-/// The body of a payload that is no SIGN, as lookup hands it out: all behind its next-payload byte.
+/// The body of a payload that is no SIGN, as lookup hands it out: all after its next-payload byte.
 pub fn body_of(payload: &[u8]) -> &[u8]
     ensures { result.now ≡ drop 1 payload.now }
 {

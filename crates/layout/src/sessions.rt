@@ -1,9 +1,9 @@
 // The sessions of a header's map.
 ghost use Rattle.std.specs.Prelude.{◌≡◌, ◌+◌, ◌<◌, ◌≤◌, length, drop, max, IfOk};
-ghost use Rattle.wire.specs.Answers.{map_ok, reported};
+ghost use Rattle.wire.specs.Answers.{map_ok, outcome_of};
 ghost use Rattle.wire.specs.Layouts.{Sessions};
 ghost use Rattle.wire.specs.Extents.{policy_count, session_flag, data_length, session_extent, session_inside, session_at};
-ghost use Rattle.wire.specs.Walking.{map_fits, sessions};
+ghost use Rattle.wire.specs.Walking.{map_fits, sessions_answer};
 ghost use Rattle.layout.specs.Measures.{Measures};
 
 use crate::bodies::{be16_at, length_at};
@@ -74,10 +74,10 @@ pub(crate) fn session_length(at: usize, bytes: &[u8]) -> Result<usize, Refusal>
 /// Where so many sessions end, of which the first begins at `from`.
 pub fn sessions_end(count: u8, from: usize, bytes: &[u8]) -> Result<usize, Refusal>
     ensures answer { result
-        ≡ map_ok (λ info. from + length info) (sessions count from (drop from bytes.now)) }
+        ≡ map_ok (λ info. from + length info) (sessions_answer count from (drop from bytes.now)) }
     // As it is told: a refusal by its number, place and detail.
-    ensures told { reported result ≡ reported
-        (map_ok (λ info. from + length info) (sessions count from (drop from bytes.now))) }
+    ensures told { outcome_of result ≡ outcome_of
+        (map_ok (λ info. from + length info) (sessions_answer count from (drop from bytes.now))) }
     ensures within { IfOk result (λ n. (from ≤ n) × (n ≤ max from (length bytes.now))) }
 {
     let mut at = from;
@@ -90,9 +90,10 @@ pub fn sessions_end(count: u8, from: usize, bytes: &[u8]) -> Result<usize, Refus
 
 /// How long so many sessions at the front of map info are, in bytes. Places count from its start.
 pub fn info_length(count: u8, info: &[u8]) -> Result<usize, Refusal>
-    ensures answer { result ≡ map_ok length (sessions count 0 info.now) }
+    ensures answer { result ≡ map_ok length (sessions_answer count 0 info.now) }
     // As it is told: a refusal by its number, place and detail.
-    ensures told { reported result ≡ reported (map_ok length (sessions count 0 info.now)) }
+    ensures told { outcome_of result
+        ≡ outcome_of (map_ok length (sessions_answer count 0 info.now)) }
     // The sessions that are measured are those that the layouts draw.
     ensures drawn { Measures (Sessions count) info.now result }
 {

@@ -24,7 +24,7 @@ fn list(rt: &HostRuntime, rows: &[Row]) -> io::Result<()> {
 }
 
 fn refuse(rt: &HostRuntime, refusal: Refusal) -> io::Result<()> {
-    let told = refusal.told();
+    let told = refusal.report();
     println!(rt; "number place detail")?;
     println!(rt; "{told}")?;
     eprintln!(rt; "refused: {refusal}")

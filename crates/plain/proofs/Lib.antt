@@ -1,5 +1,5 @@
 pub mod Offers
-pub mod Joints
-pub mod Keeping
+pub mod Append
+pub mod LawfulDraft
 pub mod Edited
-pub mod Turning
+pub mod CallEffect

@@ -2,6 +2,6 @@ pub mod Drafts
 pub mod Offers
 pub mod Edits
 pub mod Steps
-pub mod Kept
+pub mod LawfulDrafts
 pub mod Outcomes
-pub mod Turns
+pub mod Effects

@@ -1,6 +1,6 @@
 -- What a call on a draft answers, as it is told.
 use Rattle.std.specs.Prelude.{ℕ}
-use Rattle.wire.specs.Refusals.{told}
+use Rattle.wire.specs.Refusals.{report_of}
 use Rattle.plain.specs.declared.calls.Reply.{Reply}
 use Rattle.plain.specs.declared.calls.Reply.TheVariants.{Done, Delivered, Released, Refused, Misplaced}
 
@@ -16,5 +16,5 @@ abbrev pub outcome : Reply → Outcome
 outcome Done = done
 outcome (Delivered n) = delivered n
 outcome (Released n) = released n
-outcome (Refused f) = refused (told f).number (told f).place (told f).detail
+outcome (Refused f) = refused (report_of f).number (report_of f).place (report_of f).detail
 outcome Misplaced = misplaced

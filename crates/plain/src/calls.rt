@@ -1,6 +1,6 @@
 // The calls on a draft, and what each answers.
 ghost use Rattle.std.specs.Prelude.{◌≡◌};
-ghost use Rattle.plain.specs.Turns.{settled, delivering};
+ghost use Rattle.plain.specs.Effects.{edit_reply, sign_reply};
 
 use wire::Refusal;
 
@@ -14,7 +14,8 @@ pub struct Head<'a> {
     pub map_info: &'a [u8],
 }
 
-// A body is all of a payload behind its next-payload byte. A code is a byte that may name no kind, which is a refusal of its own.
+// A body is all of a payload after its next-payload byte. A code is a byte that may name no kind,
+// which is a refusal of its own.
 #[derive_where(Clone, Copy)]
 pub enum Call<'a, P> {
     Head(Head<'a>),
@@ -41,7 +42,8 @@ pub enum Call<'a, P> {
     Release,
 }
 
-// A call that the state of the draft does not take is misplaced, which is neither an answer nor a refusal: so this is no Result.
+// A call that the state of the draft does not take is misplaced, which is neither an answer nor a
+// refusal: so this is no Result.
 #[derive(Clone, Copy, PartialEq, Eq, Debug)]
 pub enum Reply {
     Done,
@@ -53,7 +55,7 @@ pub enum Reply {
 
 // What an edit answers, as a reply.
 impl From<Result<(), Refusal>> for Reply {
-    ghost from_gives = { λ answer reply. reply ≡ settled answer };
+    ghost from_gives = { λ answer reply. reply ≡ edit_reply answer };
 
     fn from(answer: Result<(), Refusal>) -> Reply {
         match answer {
@@ -65,7 +67,7 @@ impl From<Result<(), Refusal>> for Reply {
 
 // What sign answers, as a reply.
 impl From<Result<usize, Refusal>> for Reply {
-    ghost from_gives = { λ answer reply. reply ≡ delivering answer };
+    ghost from_gives = { λ answer reply. reply ≡ sign_reply answer };
 
     fn from(answer: Result<usize, Refusal>) -> Reply {
         match answer {

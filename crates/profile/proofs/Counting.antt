@@ -4,17 +4,17 @@ use Rattle.std.proofs.lemmas.Bool.{cases_Bool, eqb-true, eqb-false}
 use Rattle.std.proofs.lemmas.Bool.Decides.{nat_tests}
 use Rattle.std.proofs.lemmas.List.{get_or-set_same, get_or-set_other, take_more, map-append}
 use Rattle.wire.specs.declared.row.Row.{Row}
-use Rattle.wire.specs.Rows.{blank}
+use Rattle.wire.specs.Rows.{blank_row}
 use Rattle.profile.specs.Admits.{count}
 use Rattle.profile.specs.Admitting.{slots_in}
-use Rattle.profile.specs.Counts.{Counting}
+use Rattle.profile.specs.Counts.{IsCountTable}
 use Rattle.profile.proofs.Slots.{count_append}
 
 one_more : (n c : ℕ) → n ≡ min c 255 → min (n + 1) 255 ≡ min (c + 1) 255
 one_more n c e = omega arith
 
 pub entered : (ss : List ℕ) (table : List ℕ) (slot n : ℕ) → slot < length table → n ≡ min (get_or table slot 0 + 1) 255 → slot < 256
-    → Counting ss table → Counting (ss ++ slot ∷ []) (set table slot n)
+    → IsCountTable ss table → IsCountTable (ss ++ slot ∷ []) (set table slot n)
 entered ss table slot n h q small c s t =
     let a : count s (ss ++ slot ∷ []) ≡ count s ss + (cond (eqb slot s) 1 0 + 0) = count_append s ss (slot ∷ []) in
     elim (cases_Bool (eqb slot s)) [
@@ -34,5 +34,5 @@ pub reached : (n c bound : ℕ) → bound ≤ 255 → n ≡ min c 255 → leb bo
 reached n c bound h e = grind (arith, nat_tests)
 
 -- the slots of one row more
-pub slots_more : (rows : List Row) (i : ℕ) → i < length rows → slots_in (take (i + 1) rows) ≡ slots_in (take i rows) ++ ((get_or rows i blank).slot ∷ [])
-slots_more rows i h = ap slots_in (take_more rows i blank h) ∙ map-append (λ r. r.slot) (take i rows) (get_or rows i blank ∷ [])
+pub slots_more : (rows : List Row) (i : ℕ) → i < length rows → slots_in (take (i + 1) rows) ≡ slots_in (take i rows) ++ ((get_or rows i blank_row).slot ∷ [])
+slots_more rows i h = ap slots_in (take_more rows i blank_row h) ∙ map-append (λ r. r.slot) (take i rows) (get_or rows i blank_row ∷ [])

@@ -6,21 +6,21 @@ use Rattle.profile.specs.declared.refusal.SheetRefusal.TheVariants.{LineForm, Li
 use Rattle.wire.specs.Answers.{and_then}
 use Rattle.wire.proofs.Answers.{check_ok, and_then_ok, ok_or_ok, same_ok, never_ok}
 use Rattle.profile.specs.declared.sheet.Line.{Line}
-use Rattle.profile.specs.Sheets.{ended, line_text, Bounded, Lines}
-use Rattle.profile.specs.Parsing.{SheetAnswer, Read, behind, number_in, line_in, bounded, line_behind, lines_from}
+use Rattle.profile.specs.Sheets.{number_text, line_text, IsInBounds, AreLines}
+use Rattle.profile.specs.Parsing.{SheetAnswer, Taken, then_take, number_in, line_in, is_in_bounds, line_answer, lines_answer}
 use Rattle.profile.proofs.Numerals.{number_there, number_back, space, feed}
 
-behind_some : {A B : Type 0} (r : Read A) (next : A → List ℕ → Read B) (b : B × List ℕ) → behind r next ≡ Some b → (a : A × List ℕ) × (r ≡ Some a) × (next a.0 a.1 ≡ Some b)
+behind_some : {A B : Type 0} (r : Taken A) (next : A → List ℕ → Taken B) (b : B × List ℕ) → then_take r next ≡ Some b → (a : A × List ℕ) × (r ≡ Some a) × (next a.0 a.1 ≡ Some b)
 behind_some (Some a) next b e = (a, refl, e)
 behind_some None next b e = absurd (cc)
 
 -- four numbers in a row
 line_there : (l : Line) (r : List ℕ) → l.slot < 100 → l.entry.bounds.least < 100 → l.entry.bounds.most < 100 → l.entry.rank < 100 → line_in (line_text l ++ r) ≡ Some (l, r)
 line_there l r hs hl hm hr =
-    let a : List ℕ = ended l.slot 32 in
-    let b : List ℕ = ended l.entry.bounds.least 32 in
-    let c : List ℕ = ended l.entry.bounds.most 32 in
-    let d : List ℕ = ended l.entry.rank 10 in
+    let a : List ℕ = number_text l.slot 32 in
+    let b : List ℕ = number_text l.entry.bounds.least 32 in
+    let c : List ℕ = number_text l.entry.bounds.most 32 in
+    let d : List ℕ = number_text l.entry.rank 10 in
     let is : line_text l ++ r ≡ a ++ (b ++ (c ++ (d ++ r))) =
     append_assoc a (b ++ (c ++ d)) r ∙ ap (λ x. a ++ x) (append_assoc b (c ++ d) r ∙ ap (λ x. b ++ x) (append_assoc c d r)) in
     ap line_in is
@@ -37,10 +37,10 @@ line_back bs r e =
     let l = behind_some (number_in 32 s.0.1) _ r s.2 in
     let m = behind_some (number_in 32 l.0.1) _ r l.2 in
     let k = behind_some (number_in 10 m.0.1) _ r m.2 in
-    let A : List ℕ = ended s.0.0 32 in
-    let B : List ℕ = ended l.0.0 32 in
-    let C : List ℕ = ended m.0.0 32 in
-    let D : List ℕ = ended k.0.0 10 in
+    let A : List ℕ = number_text s.0.0 32 in
+    let B : List ℕ = number_text l.0.0 32 in
+    let C : List ℕ = number_text m.0.0 32 in
+    let D : List ℕ = number_text k.0.0 10 in
     let rest : List ℕ = k.0.1 in
     let line : Line = record { slot = s.0.0; entry = record { bounds = record { least = l.0.0; most = m.0.0 }; rank = k.0.0 } } in
     let q : (line, rest) ≡ r = let i = k.2 in cc in
@@ -51,10 +51,10 @@ line_back bs r e =
     subst (λ (x : Line × List ℕ). bs ≡ line_text x.0 ++ x.1) q
     (e1 ∙ ap (λ x. A ++ x) (ap (λ x. B ++ x) (sym (append_assoc C D rest)) ∙ sym (append_assoc B (C ++ D) rest)) ∙ sym (append_assoc A (B ++ (C ++ D)) rest))
 
-bounds_kept : (above : ℕ) (l : Line) → Bounded above l → bounded above l ≡ true
+bounds_kept : (above : ℕ) (l : Line) → IsInBounds above l → is_in_bounds above l ≡ true
 bounds_kept above l b = grind (arith, nat_tests)
 
-bounds_keep : (above : ℕ) (l : Line) → bounded above l ≡ true → Bounded above l
+bounds_keep : (above : ℕ) (l : Line) → is_in_bounds above l ≡ true → IsInBounds above l
 bounds_keep above l e =
     record {
       rises = grind (arith, nat_tests);
@@ -64,51 +64,51 @@ bounds_keep above l e =
       rank = grind (arith, nat_tests);
     }
 
-behind_there : (above at : ℕ) (l : Line) (r : List ℕ) → Bounded above l → line_behind above at (line_text l ++ r) ≡ Ok (l, r)
+behind_there : (above at : ℕ) (l : Line) (r : List ℕ) → IsInBounds above l → line_answer above at (line_text l ++ r) ≡ Ok (l, r)
 behind_there above at l r b =
     let t = line_there l r (omega (arith, b.there)) (omega (arith, b.counts, b.most)) (omega (arith, b.most)) (omega (arith, b.rank)) in
     rw (t, bounds_kept above l b)
 
--- what an accepted line behind another says
+-- what an accepted line after another says
 record Behind (above : ℕ) (bs : List ℕ) (r : Line × List ℕ) : Type 0 where
-  bounds : Bounded above r.0
+  bounds : IsInBounds above r.0
   is : bs ≡ line_text r.0 ++ r.1
 
-behind_back : (above at : ℕ) (bs : List ℕ) (r : Line × List ℕ) → line_behind above at bs ≡ Ok r → Behind above bs r
+behind_back : (above at : ℕ) (bs : List ℕ) (r : Line × List ℕ) → line_answer above at bs ≡ Ok r → Behind above bs r
 behind_back above at bs r e =
     let l = and_then_ok _ _ r e in
-    let k = check_ok (bounded above l.0.0) (LineBounds at) (Ok l.0) r l.2 in
+    let k = check_ok (is_in_bounds above l.0.0) (LineBounds at) (Ok l.0) r l.2 in
     let i = line_back bs l.0 (ok_or_ok (line_in bs) (LineForm at) l.0 l.1) in
     subst (Behind above bs) (same_ok l.0 r k.1) (record { bounds = bounds_keep above l.0.0 k.0; is = i })
 
 line_some : (l : Line) → 0 < length (line_text l)
 line_some l = omega (arith, length-append {A = ℕ})
 
--- the slot is in the table, and what is behind the line is shorter
+-- the slot is in the table, and what is after the line is shorter
 pub record Ahead (bs : List ℕ) (r : Line × List ℕ) : Type 0 where
   pub there : r.0.slot ≤ 12
   pub shorter : length r.1 < length bs
 
-pub goes_on : (above at : ℕ) (bs : List ℕ) (r : Line × List ℕ) → Ok r ≡ line_behind above at bs → Ahead bs r
+pub goes_on : (above at : ℕ) (bs : List ℕ) (r : Line × List ℕ) → Ok r ≡ line_answer above at bs → Ahead bs r
 goes_on above at bs r e =
     let b = behind_back above at bs r (sym e) in
     record { there = b.bounds.there; shorter = rw b.is (omega (arith, length-append (line_text r.0) r.1, line_some r.0)) }
 
--- the lines behind the one at the front
+-- the lines after the one at the front
 abbrev pub next : ℕ → ℕ → Line × List ℕ → SheetAnswer (List Line)
-next n end r = and_then (lines_from n r.0.slot end r.1) (λ ls. Ok (r.0 ∷ ls))
+next n end r = and_then (lines_answer n r.0.slot end r.1) (λ ls. Ok (r.0 ∷ ls))
 
-pub lines_cons : (n above end : ℕ) (bs : List ℕ) → 0 < length bs → lines_from (suc n) above end bs ≡ and_then (line_behind above (end - length bs) bs) (next n end)
-unfolding lines_from
+pub lines_cons : (n above end : ℕ) (bs : List ℕ) → 0 < length bs → lines_answer (suc n) above end bs ≡ and_then (line_answer above (end - length bs) bs) (next n end)
+unfolding lines_answer
 lines_cons n above end [] h = absurd (omega arith)
 lines_cons n above end (b ∷ bs) h = refl
 
-pub lines_none : (n above end : ℕ) → lines_from n above end [] ≡ Ok []
-unfolding lines_from
+pub lines_none : (n above end : ℕ) → lines_answer n above end [] ≡ Ok []
+unfolding lines_answer
 lines_none zero above end = refl
 lines_none (suc n) above end = refl
 
-pub lines_there : (ls : List Line) (n above end : ℕ) → Lines above ls → length (flat_map line_text ls) ≤ n → lines_from n above end (flat_map line_text ls) ≡ Ok ls
+pub lines_there : (ls : List Line) (n above end : ℕ) → AreLines above ls → length (flat_map line_text ls) ≤ n → lines_answer n above end (flat_map line_text ls) ≡ Ok ls
 lines_there [] n above end k h = lines_none n above end
 lines_there (l ∷ ls) zero above end k h = absurd (omega (arith, length-append (line_text l) (flat_map line_text ls), line_some l))
 lines_there (l ∷ ls) (suc n) above end k h =
@@ -118,17 +118,17 @@ lines_there (l ∷ ls) (suc n) above end k h =
     let ih = lines_there ls n l.slot end k.1 (omega arith) in
     lines_cons n above end (line_text l ++ r) (omega arith) ∙ rw (behind_there above _ l r k.0, ih)
 
-pub lines_back : (n above end : ℕ) (bs : List ℕ) (ls : List Line) → lines_from n above end bs ≡ Ok ls → Lines above ls × (flat_map line_text ls ≡ bs)
-unfolding lines_from
-lines_back n above end [] ls e = subst (λ x. Lines above x × (flat_map line_text x ≡ [])) (same_ok [] ls e) (tt, refl)
+pub lines_back : (n above end : ℕ) (bs : List ℕ) (ls : List Line) → lines_answer n above end bs ≡ Ok ls → AreLines above ls × (flat_map line_text ls ≡ bs)
+unfolding lines_answer
+lines_back n above end [] ls e = subst (λ x. AreLines above x × (flat_map line_text x ≡ [])) (same_ok [] ls e) (tt, refl)
 lines_back zero above end (b ∷ bs) ls e = absurd (never_ok _ ls e)
 lines_back (suc n) above end (b ∷ bs) ls e =
-    let a = and_then_ok (line_behind above (end - length (b ∷ bs)) (b ∷ bs)) _ ls e in
+    let a = and_then_ok (line_answer above (end - length (b ∷ bs)) (b ∷ bs)) _ ls e in
     let r = a.0 in
-    let t = and_then_ok (lines_from n r.0.slot end r.1) _ ls a.2 in
+    let t = and_then_ok (lines_answer n r.0.slot end r.1) _ ls a.2 in
     let w = behind_back above (end - length (b ∷ bs)) (b ∷ bs) r a.1 in
     let h = lines_back n r.0.slot end r.1 t.0 t.1 in
-    subst (λ x. Lines above x × (flat_map line_text x ≡ b ∷ bs)) (same_ok (r.0 ∷ t.0) ls t.2) (
+    subst (λ x. AreLines above x × (flat_map line_text x ≡ b ∷ bs)) (same_ok (r.0 ∷ t.0) ls t.2) (
       (w.bounds, h.0),
       ap (λ x. line_text r.0 ++ x) h.1 ∙ sym w.is,
     )

@@ -5,7 +5,7 @@ use Rattle.std.proofs.lemmas.List.{get_or_past}
 use Rattle.std.proofs.lemmas.Bool.Decides.{nat_tests}
 use Rattle.std.proofs.lemmas.Bool.{cases_Bool, lt-ltb, le-ltb}
 use Rattle.wire.proofs.Numbers.{firsts_rest}
-use Rattle.profile.specs.Sheets.{ended}
+use Rattle.profile.specs.Sheets.{number_text}
 use Rattle.profile.specs.Parsing.{number_in}
 
 -- a byte that ends a number: below the digits, and not 0
@@ -20,14 +20,14 @@ digit_of : (b : ℕ) → is_ascii_digit b ≡ true → (48 ≤ b) × (b ≤ 57)
 digit_of b e = (grind (arith, nat_tests), grind (arith, nat_tests))
 
 module _ (end : ℕ) (ends : Ends end) where
-  pub number_there : (n : ℕ) (r : List ℕ) → n < 100 → number_in end (ended n end ++ r) ≡ Some (n, r)
+  pub number_there : (n : ℕ) (r : List ℕ) → n < 100 → number_in end (number_text n end ++ r) ≡ Some (n, r)
   number_there n r h =
       elim (cases_Bool (ltb n 10)) [ inl t ↦ rw t (grind (arith, nat_tests)) | inr t ↦ rw t (grind (arith, nat_tests)) ]
 
   -- what an accepted number says
   pub record Wrote (bs : List ℕ) (r : ℕ × List ℕ) : Type 0 where
     pub small : r.0 < 100
-    pub is : bs ≡ ended r.0 end ++ r.1
+    pub is : bs ≡ number_text r.0 end ++ r.1
 
   one_digit : (bs : List ℕ) → is_ascii_digit (get_or bs 0 0) ≡ true → get_or bs 1 0 ≡ end → Wrote bs (get_or bs 0 0 - 48, drop 2 bs)
   one_digit bs d e =

@@ -18,9 +18,12 @@ at_most_once = between 0 1
 abbrev never : Bounds
 never = between 0 0
 
--- slots 1 to 12: T, RAND, IDR of roles 1, 2, 6 and 7, SP, SAKKE, EXT of types 6 and 7, SIGN, any other
+-- slots 1 to 12: T, RAND, IDR of roles 1, 2, 6 and 7, SP, SAKKE, EXT of types 6 and 7, SIGN, any
+-- other
 abbrev slot_bounds : Bounds → List Bounds
-slot_bounds parameters = once ∷ once ∷ once ∷ once ∷ once ∷ once ∷ at_most_once ∷ once ∷ at_most_once ∷ parameters ∷ once ∷ never ∷ []
+slot_bounds parameters =
+    once ∷ once ∷ once ∷ once ∷ once ∷ once ∷ at_most_once ∷ once ∷ at_most_once ∷ parameters ∷ once
+    ∷ never ∷ []
 
 -- key parameters, an EXT of type 7, come with a group key and may come with another
 abbrev pub fixed_bounds : Fixed → List Bounds

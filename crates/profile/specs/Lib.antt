@@ -9,4 +9,4 @@ pub mod Admitting
 pub mod SheetRefusals
 pub mod Sheets
 pub mod Parsing
-pub mod Choices
+pub mod AnyProfiles

@@ -13,9 +13,11 @@ only v = from v v
 abbrev pub holds : Values → ℕ → Bool
 holds vs v = nat_le vs.low v && nat_le v vs.high
 
--- fields 1 to 10: V, PRF func, purpose, #CS, RAND len, ID type, Prot type of SP, SAKKE params, ID scheme, S type
+-- fields 1 to 10: V, PRF func, purpose, #CS, RAND len, ID type, Prot type of SP, SAKKE params, ID
+-- scheme, S type
 abbrev field_values : Values → Values → List Values
-field_values purpose cs = only 0 ∷ only 1 ∷ purpose ∷ cs ∷ from 16 255 ∷ only 1 ∷ only 0 ∷ only 1 ∷ only 2 ∷ only 2 ∷ []
+field_values purpose cs =
+    only 0 ∷ only 1 ∷ purpose ∷ cs ∷ from 16 255 ∷ only 1 ∷ only 0 ∷ only 1 ∷ only 2 ∷ only 2 ∷ []
 
 abbrev pub fixed_values : Fixed → List Values
 fixed_values Csk = field_values (only 2) (from 0 1)

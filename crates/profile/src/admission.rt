@@ -2,9 +2,9 @@
 ghost use Rattle.std.specs.Prelude.{◌≡◌, ◌<◌, [], ◌∷◌, length, slice_index, IfOk};
 ghost use Rattle.wire.specs.Numbered.{field_number};
 ghost use Rattle.profile.specs.Fields.{field};
-ghost use Rattle.profile.specs.Admits.{slots};
-ghost use Rattle.profile.specs.Counts.{Counting};
-ghost use Rattle.profile.specs.Admitting.{taking, header_in, sakke_in, fields_in, slots_in, fitted, fitting, sufficient, sufficing, admitting, AdmitsExactly};
+ghost use Rattle.profile.specs.Admits.{slot_numbers};
+ghost use Rattle.profile.specs.Counts.{IsCountTable};
+ghost use Rattle.profile.specs.Admitting.{fields_answer, header_fields_in, sakke_in, fields_in, slots_in, payload_answer, payloads_answer, least_answer, least_answers, admit_answer, AdmitsExactly};
 
 use crate::counts::Counts;
 use crate::interface::Profile;
@@ -19,8 +19,9 @@ struct Admission<'a, P> {
 }
 
 impl<P: Profile> Admission<'_, P> {
-    fn ask(&self, asked: Field, place: usize, value: u8) -> Result<(), Refusal>
-        ensures { result ≡ taking (P.tables self.now.profile.now) (field (field_number asked) place value ∷ []) }
+    fn check_field(&self, asked: Field, place: usize, value: u8) -> Result<(), Refusal>
+        ensures { result ≡ fields_answer (P.tables self.now.profile.now)
+            (field (field_number asked) place value ∷ []) }
     {
         let field = asked.number();
         if self.profile.takes(field, value) {
@@ -31,52 +32,68 @@ impl<P: Profile> Admission<'_, P> {
     }
 
     // A field that is a whole byte.
-    fn ask_byte(&self, asked: Field, place: usize) -> Result<(), Refusal>
-        ensures { result ≡ taking (P.tables self.now.profile.now) (field (field_number asked) place (slice_index self.now.message.now place) ∷ []) }
+    fn check_byte(&self, asked: Field, place: usize) -> Result<(), Refusal>
+        ensures { result ≡ fields_answer (P.tables self.now.profile.now)
+            (field (field_number asked) place (slice_index self.now.message.now place) ∷ []) }
     {
-        self.ask(asked, place, byte_at(self.message, place))
+        self.check_field(asked, place, byte_at(self.message, place))
     }
 
     // V, PRF func, purpose and #CS.
     fn header(&self) -> Result<(), Refusal>
-        ensures { result ≡ taking (P.tables self.now.profile.now) (header_in self.now.message.now) }
+        ensures { result ≡ fields_answer (P.tables self.now.profile.now)
+            (header_fields_in self.now.message.now) }
     {
         let flags = byte_at(self.message, 3);
-        self.ask(Field::Version, 3, flags / 128)?;
-        self.ask(Field::Prf, 3, flags % 128)?;
-        self.ask(Field::Purpose, 4, byte_at(self.message, 4) / 16)?;
-        self.ask_byte(Field::Sessions, 8)
+        self.check_field(Field::Version, 3, flags / 128)?;
+        self.check_field(Field::Prf, 3, flags % 128)?;
+        self.check_field(Field::Purpose, 4, byte_at(self.message, 4) / 16)?;
+        self.check_byte(Field::Sessions, 8)
     }
 
     // The fields of one payload.
     fn payload(&self, row: &Row) -> Result<(), Refusal>
-        ensures { result ≡ taking (P.tables self.now.profile.now) (fields_in self.now.message.now row.now) }
+        ensures { result ≡ fields_answer (P.tables self.now.profile.now)
+            (fields_in self.now.message.now row.now) }
     {
         let start = row.start as usize;
         match Kind::of(row.code) {
-            Some(Kind::Rand) => self.ask_byte(Field::RandLength, start + 1),
-            Some(Kind::Idr) => self.ask_byte(Field::IdType, start + 2),
-            Some(Kind::Sp) => self.ask_byte(Field::Protocol, start + 2),
+            Some(Kind::Rand) => self.check_byte(Field::RandLength, start + 1),
+            Some(Kind::Idr) => self.check_byte(Field::IdType, start + 2),
+            Some(Kind::Sp) => self.check_byte(Field::Protocol, start + 2),
             Some(Kind::Sakke) => self.sakke(start + 1),
             Some(Kind::Ext) if row.slot == Slot::ExtSakke.number() => self.sakke(start + 5),
-            Some(Kind::Sign) => self.ask(Field::SignType, start, byte_at(self.message, start) / 16),
+            Some(Kind::Sign) => self.check_field(
+                Field::SignType,
+                start,
+                byte_at(self.message, start) / 16,
+            ),
             _ => Ok(()),
         }
     }
 
-    // SAKKE params, and ID scheme behind it.
+    // SAKKE params, and ID scheme after it.
     fn sakke(&self, params: usize) -> Result<(), Refusal>
         requires { params < usize.MAX }
-        ensures { result ≡ taking (P.tables self.now.profile.now) (sakke_in self.now.message.now params) }
+        ensures { result ≡ fields_answer (P.tables self.now.profile.now)
+            (sakke_in self.now.message.now params) }
     {
-        self.ask_byte(Field::SakkeParams, params)?;
-        self.ask_byte(Field::IdScheme, params + 1)
+        self.check_byte(Field::SakkeParams, params)?;
+        self.check_byte(Field::IdScheme, params + 1)
     }
 
-    // Fields, rank and most count of one payload behind earlier ones, which are counted; answers its rank.
-    fn fit(&self, last: u8, earlier: &[Row], counts: &Counts, row: &Row) -> Result<u8, Refusal>
-        requires { Counting (slots_in earlier.now) counts.now.by_slot }
-        ensures { result ≡ fitted (P.tables self.now.profile.now) self.now.message.now last earlier.now row.now }
+    // Fields, rank and most count of one payload after earlier ones, which are counted; answers
+    // its rank.
+    fn check_payload(
+        &self,
+        last: u8,
+        earlier: &[Row],
+        counts: &Counts,
+        row: &Row,
+    ) -> Result<u8, Refusal>
+        requires { IsCountTable (slots_in earlier.now) counts.now.by_slot }
+        ensures { result ≡ payload_answer (P.tables self.now.profile.now) self.now.message.now last
+            earlier.now row.now }
     {
         self.payload(row)?;
         let start = row.start as usize;
@@ -93,22 +110,26 @@ impl<P: Profile> Admission<'_, P> {
 
     // Each payload in turn. They are counted on the way.
     fn payloads(&self, counts: &mut Counts) -> Result<(), Refusal>
-        requires { Counting [] counts.old.by_slot }
-        ensures answer { result ≡ fitting (P.tables self.now.profile.now) self.now.message.now 0 [] self.now.rows.now }
-        ensures counted { IfOk result (λ _. Counting (slots_in self.now.rows.now) counts.new.by_slot) }
+        requires { IsCountTable [] counts.old.by_slot }
+        ensures answer { result
+            ≡ payloads_answer (P.tables self.now.profile.now) self.now.message.now 0 []
+            self.now.rows.now }
+        ensures counted { IfOk result
+            (λ _. IsCountTable (slots_in self.now.rows.now) counts.new.by_slot) }
     {
         let mut last = 0;
         for (i, row) in self.rows.iter().enumerate() {
-            last = self.fit(last, &self.rows[..i], counts, row)?;
+            last = self.check_payload(last, &self.rows[..i], counts, row)?;
             counts.enter(row.slot);
         }
         Ok(())
     }
 
     // The least count of a slot.
-    fn suffice(&self, slot: u8, counts: &Counts) -> Result<(), Refusal>
-        requires { Counting (slots_in self.now.rows.now) counts.now.by_slot }
-        ensures { result ≡ sufficient (P.tables self.now.profile.now) (length self.now.message.now) self.now.rows.now slot }
+    fn check_least(&self, slot: u8, counts: &Counts) -> Result<(), Refusal>
+        requires { IsCountTable (slots_in self.now.rows.now) counts.now.by_slot }
+        ensures { result ≡ least_answer (P.tables self.now.profile.now)
+            (length self.now.message.now) self.now.rows.now slot }
     {
         if !counts.reach(slot, self.profile.bounds(slot).least) {
             return Err(Refusal::BelowLeast {
@@ -120,11 +141,12 @@ impl<P: Profile> Admission<'_, P> {
     }
 
     fn least(&self, counts: &Counts) -> Result<(), Refusal>
-        requires { Counting (slots_in self.now.rows.now) counts.now.by_slot }
-        ensures { result ≡ sufficing (P.tables self.now.profile.now) (length self.now.message.now) self.now.rows.now slots }
+        requires { IsCountTable (slots_in self.now.rows.now) counts.now.by_slot }
+        ensures { result ≡ least_answers (P.tables self.now.profile.now)
+            (length self.now.message.now) self.now.rows.now slot_numbers }
     {
         for slot in Slot::T.number()..=Slot::LAST.number() {
-            self.suffice(slot, counts)?;
+            self.check_least(slot, counts)?;
         }
         Ok(())
     }
@@ -132,7 +154,7 @@ impl<P: Profile> Admission<'_, P> {
 
 // Whether a profile admits a message, by its bytes and the rows that mark off its payloads.
 pub fn admit<P: Profile>(profile: &P, message: &[u8], rows: &[Row]) -> Result<(), Refusal>
-    ensures answer { result ≡ admitting (P.tables profile.now) message.now rows.now }
+    ensures answer { result ≡ admit_answer (P.tables profile.now) message.now rows.now }
     // As it is told, and in the words of messages.
     ensures exactly { AdmitsExactly (P.tables profile.now) message.now rows.now result }
 {

@@ -53,8 +53,9 @@ const OPTIONAL: Bounds = Bounds { least: 0, most: 1 };
 
 const ONCE: Bounds = Bounds { least: 1, most: 1 };
 
-// Slots 0 to 12 (there is no slot 0): T, RAND, IDR of the four roles, SP, SAKKE, EXT of types 6 and 7, SIGN, other. A table for each
-// profile, as in the standard's own, though those of CSK and PCK are alike.
+// Slots 0 to 12 (there is no slot 0): T, RAND, IDR of the four roles, SP, SAKKE, EXT of types 6 and
+// 7, SIGN, other. A table for each profile, as in the standard's own, though those of CSK and PCK
+// are alike.
 const CSK: [Bounds; 13] = [
     NEVER, ONCE, ONCE, ONCE, ONCE, ONCE, ONCE, OPTIONAL, ONCE, OPTIONAL, OPTIONAL, ONCE, NEVER,
 ];

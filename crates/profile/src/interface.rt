@@ -9,8 +9,8 @@ pub struct Bounds {
     pub most: u8,
 }
 
-// Its meaning is three tables; asking gives the entry and alters nothing. It is asked for every number from 0 to 255, so that fields and
-// slots are numbers here and no enums.
+// Its meaning is three tables; asking gives the entry and alters nothing. It is asked for every
+// number from 0 to 255, so that fields and slots are numbers here and no enums.
 pub trait Profile {
     ghost tables: { Self → Tables };
 

@@ -1,8 +1,9 @@
-// Profiles: what a station takes in a message's fields, and how often and in which order it takes payloads.
+// Profiles: what a station takes in a message's fields, and how often and in which order it takes
+// payloads.
 #![tactic(auto)]
 
 mod admission;
-mod choice;
+mod any_profile;
 mod counts;
 mod fixed;
 mod interface;
@@ -12,7 +13,7 @@ mod table;
 mod values;
 
 pub use admission::admit;
-pub use choice::Choice;
+pub use any_profile::AnyProfile;
 pub use fixed::{Fixed, UnknownProfile};
 pub use interface::{Bounds, Profile};
 pub use refusal::SheetRefusal;

@@ -1,9 +1,9 @@
 // Why a text is no sheet.
 ghost use Rattle.std.specs.Prelude.{◌≡◌, Some};
-ghost use Rattle.profile.specs.SheetRefusals.{sheet_told, sheet_words};
+ghost use Rattle.profile.specs.SheetRefusals.{sheet_report_of, sheet_words};
 
 use std::fmt;
-use wire::Told;
+use wire::Report;
 
 /// Why a text is no sheet. A place is the byte of the text where the refused line starts.
 #[derive(Clone, Copy, PartialEq, Eq, Debug)]
@@ -18,24 +18,24 @@ pub enum SheetRefusal {
 
 impl SheetRefusal {
     /// The refusal's number, place and detail.
-    pub fn told(self) -> Told
-        ensures is { result ≡ sheet_told self }
+    pub fn report(self) -> Report
+        ensures is { result ≡ sheet_report_of self }
         // Two refusals with the same number, place and detail are one.
-        ensures apart { (other : SheetRefusal) → sheet_told other ≡ result → other ≡ self }
+        ensures apart { (other : SheetRefusal) → sheet_report_of other ≡ result → other ≡ self }
     {
         match self {
-            SheetRefusal::FirstLine => Told::new(29, 0, 0),
-            SheetRefusal::LineForm(start) => Told::new(30, start, 0),
-            SheetRefusal::LineBounds(start) => Told::new(31, start, 0),
+            SheetRefusal::FirstLine => Report::new(29, 0, 0),
+            SheetRefusal::LineForm(start) => Report::new(30, start, 0),
+            SheetRefusal::LineBounds(start) => Report::new(31, start, 0),
         }
     }
 }
 
-impl From<SheetRefusal> for Told {
-    ghost from_gives = { λ refusal t. t ≡ sheet_told refusal };
+impl From<SheetRefusal> for Report {
+    ghost from_gives = { λ refusal t. t ≡ sheet_report_of refusal };
 
-    fn from(refusal: SheetRefusal) -> Told {
-        refusal.told()
+    fn from(refusal: SheetRefusal) -> Report {
+        refusal.report()
     }
 }
 

@@ -1,8 +1,8 @@
 // A sheet: a profile that a station writes as text.
 ghost use Rattle.std.specs.Prelude.{◌≡◌, ◌<◌, ◌≤◌, length, replicate};
 ghost use Rattle.wire.specs.Answers.{map_ok};
-ghost use Rattle.profile.specs.Sheets.{entries_tables, nothing};
-ghost use Rattle.profile.specs.Parsing.{read, number_in, line_in, bounded, line_behind, lines_from, laid, Parses};
+ghost use Rattle.profile.specs.Sheets.{entries_tables, no_entry};
+ghost use Rattle.profile.specs.Parsing.{taken, number_in, line_in, is_in_bounds, line_answer, lines_answer, entries_after, Parses};
 
 use crate::fixed::NEVER;
 use crate::interface::{Bounds, Profile};
@@ -56,10 +56,10 @@ pub(crate) struct Line {
     entry: Entry,
 }
 
-// One digit, or two without a leading zero, and the text behind the byte that ends them.
+// One digit, or two without a leading zero, and the text after the byte that ends them.
 fn number(text: &[u8], end: u8) -> Option<(u8, &[u8])>
     requires { 0 < end }
-    ensures { read result ≡ number_in end text.now }
+    ensures { taken result ≡ number_in end text.now }
 {
     match text {
         [ones @ b'0'..=b'9', last, rest @ ..] if *last == end => Some((ones - b'0', rest)),
@@ -70,9 +70,9 @@ fn number(text: &[u8], end: u8) -> Option<(u8, &[u8])>
     }
 }
 
-// Four numbers, one space between, and a line feed; and the text behind them.
+// Four numbers, one space between, and a line feed; and the text after them.
 fn four(text: &[u8]) -> Option<(Line, &[u8])>
-    ensures { read result ≡ line_in text.now }
+    ensures { taken result ≡ line_in text.now }
 {
     let (slot, rest) = number(text, b' ')?;
     let (least, rest) = number(rest, b' ')?;
@@ -85,7 +85,7 @@ fn four(text: &[u8]) -> Option<(Line, &[u8])>
 
 impl Line {
     fn is_bounded(self, above: u8) -> bool
-        ensures { result ≡ bounded above self }
+        ensures { result ≡ is_in_bounds above self }
     {
         above < self.slot
             && self.slot <= Slot::LAST.number()
@@ -95,9 +95,10 @@ impl Line {
     }
 }
 
-// A line behind one with the slot `above`, or behind the names, and the text behind it. It starts at `at`.
+// A line after one with the slot `above`, or after the names, and the text after it. It starts
+// at `at`.
 fn line_behind(above: u8, at: usize, text: &[u8]) -> Result<(Line, &[u8]), SheetRefusal>
-    ensures { map_ok (λ p. (p.0, p.1.now)) result ≡ line_behind above at text.now }
+    ensures { map_ok (λ p. (p.0, p.1.now)) result ≡ line_answer above at text.now }
 {
     let (line, rest) = four(text).ok_or(SheetRefusal::LineForm(at))?;
     if !line.is_bounded(above) {
@@ -109,7 +110,8 @@ fn line_behind(above: u8, at: usize, text: &[u8]) -> Result<(Line, &[u8]), Sheet
 // The sheet of some lines, in a text that ends at `end`.
 fn lines(end: usize, text: &[u8]) -> Result<Sheet, SheetRefusal>
     requires { length text.now ≤ end }
-    ensures { result ≡ map_ok (laid (replicate 13 nothing)) (lines_from end 0 end text.now) }
+    ensures { result ≡ map_ok (entries_after (replicate 13 no_entry))
+        (lines_answer end 0 end text.now) }
 {
     let mut entries = [NOTHING; 13];
     let mut above = 0;

@@ -37,8 +37,9 @@ const UP_TO_15: Values = Values { low: 0, high: 15 };
 
 const FROM_16: Values = Values { low: 16, high: 255 };
 
-// Fields 0 to 10 (there is no field 0): V, PRF func, purpose, #CS, RAND len, ID type, Prot type of SP, SAKKE params,
-// ID scheme, S type. A table for each profile, as in the standard's own, and one for sheets.
+// Fields 0 to 10 (there is no field 0): V, PRF func, purpose, #CS, RAND len, ID type, Prot type of
+// SP, SAKKE params, ID scheme, S type. A table for each profile, as in the standard's own, and one
+// for sheets.
 const CSK: [Values; 11] = [
     NONE, ONLY_0, ONLY_1, ONLY_2, UP_TO_1, FROM_16, ONLY_1, ONLY_0, ONLY_1, ONLY_2, ONLY_2,
 ];

@@ -1,5 +1,5 @@
 use crate::build::{KEY, SIGNER, Unsigned};
-use profile::{Bounds, Choice, Fixed, Profile, Sheet, UnknownProfile};
+use profile::{AnyProfile, Bounds, Fixed, Profile, Sheet, UnknownProfile};
 use reader::read;
 use std::alloc::{AllocError, Global};
 use std::process::Abort;
@@ -17,8 +17,9 @@ pub(crate) const OLD: Row = Row {
 
 const IDENTITIES: [u8; 4] = [1, 2, 6, 7];
 
-// Every payload that the fixed profiles take, each once: T at 10, RAND at 20, IDRs at 38, 44, 50 and 56, SP at 62, SAKKE at
-// 67, EXT of type 6 at 73 and of type 7 at 83, SIGN at 87, where there is no session.
+// Every payload that the fixed profiles take, each once: T at 10, RAND at 20, IDRs at 38, 44, 50
+// and 56, SP at 62, SAKKE at 67, EXT of type 6 at 73 and of type 7 at 83, SIGN at 87, where there
+// is no session.
 pub(crate) fn whole(heap: Global, purpose: u8, sessions: u8) -> Result<Vec<u8>, AllocError> {
     let mut message = Unsigned::new(heap, purpose, sessions)?;
     message.add(5, &[0; 9])?;
@@ -52,7 +53,7 @@ pub(crate) fn told(count: usize, header: usize, span: usize) -> Result<Walked, R
 // A profile chosen at run time answers as the chosen one does.
 #[test]
 fn questions(rt: HostRuntime) -> Result<(), Fail> {
-    let gmk = Choice::Fixed(Fixed::Gmk);
+    let gmk = AnyProfile::Fixed(Fixed::Gmk);
     assert!(rt; gmk.takes(3, 0));
     assert!(rt; !gmk.takes(3, 1));
     assert!(rt; !gmk.takes(0, 0));
@@ -60,7 +61,7 @@ fn questions(rt: HostRuntime) -> Result<(), Fail> {
     assert_eq!(rt; gmk.bounds(10), Bounds { least: 1, most: 1 });
     assert_eq!(rt; gmk.bounds(13), Bounds { least: 0, most: 0 });
     assert_eq!(rt; gmk.rank(11), 0);
-    let sheet = Choice::Sheet(Sheet::parse(b"slot least most rank\n2 1 3 7\n")?);
+    let sheet = AnyProfile::Sheet(Sheet::parse(b"slot least most rank\n2 1 3 7\n")?);
     assert!(rt; sheet.takes(3, 15));
     assert!(rt; !sheet.takes(3, 16));
     assert_eq!(rt; sheet.bounds(2), Bounds { least: 1, most: 3 });
@@ -367,7 +368,8 @@ fn ranks(rt: HostRuntime) -> Result<(), Fail> {
     Ok(())
 }
 
-// Of a payload its field, then its rank, then its count; then the next payload, and at the end the least counts and the verifier.
+// Of a payload its field, then its rank, then its count; then the next payload, and at the end the
+// least counts and the verifier.
 #[test]
 fn the_first_refusal_is_told(rt: HostRuntime) -> Result<(), Fail> {
     let heap = rt.alloc();

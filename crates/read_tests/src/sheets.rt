@@ -1,7 +1,7 @@
 use profile::{Bounds, Fixed, Profile, Sheet, SheetRefusal};
 use std::process::Abort;
 use std::test::Fail;
-use wire::Told;
+use wire::Report;
 
 // Each text is refused so, or is a sheet where there is no refusal.
 fn each(rt: &impl Abort, refusal: Option<SheetRefusal>, texts: &[&[u8]]) {
@@ -115,13 +115,13 @@ const TOLD: [(&[u8], u8, usize, &str); 3] = [
 fn refusals_of_sheets_as_they_are_told(rt: HostRuntime) -> Result<(), Fail> {
     for (text, number, place, words) in TOLD {
         let refusal = Sheet::parse(text).err().expect(&rt, "a refusal");
-        let told = Told {
+        let told = Report {
             number,
             place,
             detail: 0,
         };
-        assert_eq!(rt; refusal.told(), told);
-        assert_eq!(rt; Told::from(refusal), told);
+        assert_eq!(rt; refusal.report(), told);
+        assert_eq!(rt; Report::from(refusal), told);
         assert_eq!(rt; format!(in rt.alloc(); "{refusal}")?.as_str(), words);
     }
     Ok(())

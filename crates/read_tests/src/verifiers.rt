@@ -1,6 +1,6 @@
 use std::test::Fail;
 use verifier::{KeyTag, Pinned, TrustList, TrustRefusal, Verifier, same_bytes, same_identity};
-use wire::Told;
+use wire::Report;
 
 const ZERO: KeyTag = KeyTag { key: 0 };
 
@@ -66,13 +66,13 @@ const TOLD: [(TrustRefusal, u8, &str); 2] = [
 #[test]
 fn refusals_of_signers_as_they_are_told(rt: HostRuntime) -> Result<(), Fail> {
     for (refusal, number, words) in TOLD {
-        let told = Told {
+        let told = Report {
             number,
             place: 0,
             detail: 0,
         };
-        assert_eq!(rt; refusal.told(), told);
-        assert_eq!(rt; Told::from(refusal), told);
+        assert_eq!(rt; refusal.report(), told);
+        assert_eq!(rt; Report::from(refusal), told);
         assert_eq!(rt; format!(in rt.alloc(); "{refusal}")?.as_str(), words);
     }
     Ok(())

@@ -1,6 +1,6 @@
 // What a profile, and then a verifier, say of a message that was walked.
 ghost use Rattle.std.specs.Prelude.{◌≡◌};
-ghost use Rattle.reader.specs.Reading.{signer_in, verifying};
+ghost use Rattle.reader.specs.Reading.{signer_in, verify_answer};
 ghost use Rattle.reader.specs.Judges.{Judges};
 
 use layout::{Idr, body_of};
@@ -29,7 +29,7 @@ fn verify<V: Verifier>(
     span: usize,
     verifier: &V,
 ) -> Result<(), Refusal>
-    ensures { result ≡ verifying (V.passing verifier.now) message.now rows.now span }
+    ensures { result ≡ verify_answer (V.passing verifier.now) message.now rows.now span }
 {
     let spanned = bytes_at(message, 0, span);
     let signature = bytes_from(message, span);

@@ -19,7 +19,8 @@ pub fn read<P: Profile, V: Verifier>(
     profile: &P,
     verifier: &V,
 ) -> Result<Walked, Refusal>
-    ensures { Reads (P.tables profile.now) (V.passing verifier.now) message.now rows.old result rows.new }
+    ensures { Reads (P.tables profile.now) (V.passing verifier.now) message.now rows.old result
+        rows.new }
 {
     if rows.len() < MOST_PAYLOADS {
         return Err(Refusal::FewRows);

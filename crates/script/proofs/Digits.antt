@@ -39,7 +39,7 @@ module _ {E : Type 0} (bits base : ℕ) (ds : List ℕ) where
       let k = rw (without_leading_plus_none ds plain) at h in
       read_plain r k
 
--- the digits of a word are those behind `0x`, or all
+-- the digits of a word are those after `0x`, or all
 pub number_is : (bits base : ℕ) (word ds : List ℕ)
     → cond (bytes_eq (take 2 word) (codes "0x")) ((ds ≡ drop 2 word) × (base ≡ 16)) ((ds ≡ word) × (base ≡ 10))
     → read_in bits base ds ≡ number_of bits word

@@ -6,7 +6,7 @@ use Rattle.std.specs.Char.{is_whitespace, is_not_whitespace}
 use Rattle.std.specs.Str.{NoCharPasses, EmptyOrStartsWithPassing}
 use Rattle.script.specs.Words.{Front, Comment, Words}
 
--- the words behind those that are seen make the words of all
+-- the words after those that are seen make the words of all
 abbrev pub Behind : List ℕ → List ℕ → List (List ℕ) → ℕ → Type 0
 Behind text rest seen n = (ws : List (List ℕ)) → Words n rest ws → Words 7 text (seen ++ ws)
 

@@ -68,36 +68,36 @@ pub record Requests (words : Lent) (r : Option Request) : Type 0 where
   pub blank_line : length words ≡ 0 → r ≡ Some blank
   pub begins : Form words (codes "begin") 2
       → r ≡ option_map (λ room. begin room.length room.fill)
-        (room_of (position_in words 1) (byte_in words 2))
+      (room_of (position_in words 1) (byte_in words 2))
   pub heads : Form words (codes "head") 5
       → r ≡ with (byte_in words 1) (λ byte3.
-        with (number_of 32 (word words 2)) (λ csb.
-        with (byte_in words 3) (λ cs.
-        with (byte_in words 4) (λ map_type.
-        Some (head byte3 csb cs map_type (word words 5))))))
+      with (number_of 32 (word words 2)) (λ csb.
+      with (byte_in words 3) (λ cs.
+      with (byte_in words 4) (λ map_type.
+      Some (head byte3 csb cs map_type (word words 5))))))
   pub adds : Form words (codes "add") 3
       → r ≡ with (position_in words 1) (λ position.
-        with (byte_in words 2) (λ code.
-        Some (add position code (word words 3))))
+      with (byte_in words 2) (λ code.
+      Some (add position code (word words 3))))
   pub replaces : Form words (codes "replace") 3
       → r ≡ with (position_in words 1) (λ position.
-        with (byte_in words 2) (λ code.
-        Some (replace position code (word words 3))))
+      with (byte_in words 2) (λ code.
+      Some (replace position code (word words 3))))
   pub removes : Form words (codes "remove") 1
       → r ≡ with (position_in words 1) (λ position. Some (remove position))
   pub closes : Form words (codes "close") 3
       → r ≡ with (byte_in words 2) (λ type.
-        with (position_in words 3) (λ n.
-        Some (close (word words 1) type n)))
+      with (position_in words 3) (λ n.
+      Some (close (word words 1) type n)))
   pub signs : Form words (codes "sign") 1 → r ≡ Some (sign (word words 1))
   pub withdraws : Form words (codes "withdraw") 0 → r ≡ Some withdraw
   pub releases : Form words (codes "release") 0 → r ≡ Some release
   pub others : IsSome r
       → (length words ≡ 0) ⊎ (Form words (codes "begin") 2 ⊎ (Form words (codes "head") 5
-        ⊎ (Form words (codes "add") 3 ⊎ (Form words (codes "replace") 3
-        ⊎ (Form words (codes "remove") 1 ⊎ (Form words (codes "close") 3
-        ⊎ (Form words (codes "sign") 1 ⊎ (Form words (codes "withdraw") 0
-        ⊎ Form words (codes "release") 0))))))))
+      ⊎ (Form words (codes "add") 3 ⊎ (Form words (codes "replace") 3
+      ⊎ (Form words (codes "remove") 1 ⊎ (Form words (codes "close") 3
+      ⊎ (Form words (codes "sign") 1 ⊎ (Form words (codes "withdraw") 0
+      ⊎ Form words (codes "release") 0))))))))
 
 -- what a line asks for; nothing where its words are no call
 abbrev pub Asks : List ℕ → Option Request → Type 0

@@ -12,11 +12,12 @@ all_digits base (c ∷ cs) = nat_lt (digit_value c) base && all_digits base cs
 abbrev pub read_in : ℕ → ℕ → List ℕ → Option ℕ
 read_in bits base digits =
     cond
-      (nat_lt 0 (length digits)
-      && (all_digits base digits && nat_lt (digits_value base digits) (2 ^ bits)))
-      (Some (digits_value base digits)) None
+    (nat_lt 0 (length digits)
+    && (all_digits base digits && nat_lt (digits_value base digits) (2 ^ bits)))
+    (Some (digits_value base digits)) None
 
 -- hexadecimal after `0x`, and else decimal
 abbrev pub number_of : ℕ → List ℕ → Option ℕ
 number_of bits word =
-    cond (bytes_eq (take 2 word) (codes "0x")) (read_in bits 16 (drop 2 word)) (read_in bits 10 word)
+    cond (bytes_eq (take 2 word) (codes "0x")) (read_in bits 16 (drop 2 word))
+    (read_in bits 10 word)

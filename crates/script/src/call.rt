@@ -1,6 +1,6 @@
 // The call of a line that was read.
 ghost use Rattle.std.specs.Prelude.{◌≡◌, option_map};
-ghost use Rattle.plain.specs.Steps.{called};
+ghost use Rattle.plain.specs.Steps.{call_step};
 ghost use Rattle.script.specs.Lines.{request};
 ghost use Rattle.script.specs.Calls.{call_in, step_of, tables_of};
 
@@ -15,7 +15,7 @@ fn call_with<'b, P: Profile>(
     bytes: &'b [u8],
     profile: Option<&'b P>,
 ) -> Option<Call<'b, P>>
-    ensures { option_map (called P.Profile.tables) result
+    ensures { option_map (call_step P.Profile.tables) result
         ≡ step_of (tables_of P.Profile.tables profile.entry) bytes.now (request line.entry) }
 {
     Some(match line {
@@ -69,7 +69,7 @@ impl ReadLine<'_> {
         scratch: &'b [u8],
         profile: Option<&'b P>,
     ) -> Option<Call<'b, P>>
-        ensures { option_map (called P.Profile.tables) result
+        ensures { option_map (call_step P.Profile.tables) result
             ≡ call_in (tables_of P.Profile.tables profile.entry) scratch.now
             self.now.length (request self.now.line) }
     {

@@ -1,5 +1,5 @@
-// A plain draft: a message in the making, kept as records. After each call that changes them the whole
-// encoding is made anew.
+// A plain draft: a message in the making, kept as records. After each call that changes them the
+// whole encoding is made anew.
 ghost use Rattle.std.specs.Prelude.{◌<◌, ◌≤◌, OnOk, vec_len};
 
 use crate::encoding::{encode, encode_open};
@@ -26,8 +26,8 @@ pub enum Answer {
 enum Stage {
     /// It takes edits.
     Open,
-    /// It takes signatures. `carried` is what was wrong at close, and `delivered` is the length that the
-    /// last signature gave, or 0.
+    /// It takes signatures. `carried` is what was wrong at close, and `delivered` is the length
+    /// that the last signature gave, or 0.
     Out {
         carried: Option<Fault>,
         delivered: usize,
@@ -148,7 +148,7 @@ impl PlainDraft {
         self.done()
     }
 
-    /// Puts SIGN behind the payloads, its signature all zeros, or carries what is wrong.
+    /// Puts SIGN after the payloads, its signature all zeros, or carries what is wrong.
     pub fn close(
         &mut self,
         rules: &Rules,

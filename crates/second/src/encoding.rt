@@ -3,8 +3,8 @@ use crate::kind::SIGN;
 use crate::message::{Message, Payload};
 use std::alloc::{AllocError, Global};
 
-/// The bytes of the records. Of an S type above 15 and of a signature's length above 4,095 only the low
-/// bits are written.
+/// The bytes of the records. Of an S type above 15 and of a signature's length above 4,095 only the
+/// low bits are written.
 pub fn encode(alloc: Global, message: &Message) -> Result<Vec<u8>, AllocError> {
     let mut out = encode_open(alloc, message, SIGN)?;
     let length = message.signature.len() % 4096;

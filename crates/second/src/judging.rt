@@ -18,8 +18,8 @@ pub fn judge_records(message: &Message, rules: &Rules) -> Result<(), Fault> {
     judge_least(message, rules)
 }
 
-/// How far the payloads are judged: where the next one starts, and the rank of the last one. Before the
-/// first the rank is 0, and none is below that.
+/// How far the payloads are judged: where the next one starts, and the rank of the last one. Before
+/// the first the rank is 0, and none is below that.
 #[derive(Clone, Copy)]
 struct Passed {
     start: usize,
@@ -117,7 +117,7 @@ fn judge_standing(limits: Limits, slot: u8, count: usize, passed: Passed) -> Res
 /// The fields inside a payload that starts at `start`.
 fn judge_body(payload: &Payload, rules: &Rules, start: usize) -> Result<(), Fault> {
     for (field, offset) in fields_of(payload) {
-        // A body begins behind the next-payload byte.
+        // A body begins after the next-payload byte.
         let value = byte_or_zero(payload.body.as_slice(), *offset);
         judge_field(
             rules,

@@ -63,7 +63,8 @@ impl Kind {
     }
 }
 
-/// Whether `params` are items one behind the other, each a type, a length and a value of that length.
+/// Whether `params` are items one after the other, each a type, a length and a value of that
+/// length.
 fn are_whole_items(params: &[u8]) -> bool {
     let mut rest = params;
     while let [_, length, values @ ..] = rest {

@@ -1,7 +1,7 @@
 // The records of a message, and what a walk over its bytes tells besides.
 use crate::slots::slot_of;
 
-/// A payload before SIGN. The body is all of it behind its next-payload byte.
+/// A payload before SIGN. The body is all of it after its next-payload byte.
 #[derive(Debug, PartialEq, Eq, Drop)]
 pub struct Payload {
     pub code: u8,
@@ -30,8 +30,8 @@ pub struct Row {
     pub length: usize,
 }
 
-/// A message that was read to its end: its records, a row for each payload (SIGN last), the lengths of
-/// the header and of the span, and the signer.
+/// A message that was read to its end: its records, a row for each payload (SIGN last), the lengths
+/// of the header and of the span, and the signer.
 #[derive(Debug, PartialEq, Eq, Drop)]
 pub struct Decoded {
     pub message: Message,

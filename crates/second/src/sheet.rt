@@ -37,7 +37,8 @@ impl Sheet {
             .unwrap_or(Limits::NEVER)
     }
 
-    /// This sheet with the lines of `rest` too, which begins at `start`; their slots rise from above `last`.
+    /// This sheet with the lines of `rest` too, which begins at `start`; their slots rise from
+    /// above `last`.
     fn with_lines(self, rest: &[u8], start: usize, last: u8) -> Result<Sheet, Fault>
         requires { start + length rest.now < 2 ^ 64 }
     {
@@ -91,8 +92,8 @@ impl Line {
     }
 }
 
-/// The number at the front of `text` that `end` ends, and what is behind that: one digit, or two of which
-/// the first is not 0.
+/// The number at the front of `text` that `end` ends, and what is after that: one digit, or two of
+/// which the first is not 0.
 fn number_before(text: &[u8], end: u8) -> Option<(u8, &[u8])>
     ensures { IfSome result (λ r. length r.1.now < length text.now) }
 {

@@ -17,8 +17,8 @@ const FIXED_HEADER: usize = 10;
 /// Where byte 2 of the header, the first next-payload byte, stands.
 const FIRST_NEXT: usize = 2;
 
-/// Reads a message to its end: refusals 1 to 13. `rows_lent` is how many rows the caller has lent; the
-/// rows come back in `Decoded`.
+/// Reads a message to its end: refusals 1 to 13. `rows_lent` is how many rows the caller has lent;
+/// the rows come back in `Decoded`.
 pub fn decode(alloc: Global, bytes: &[u8], rows_lent: usize) -> Result<Decoded, Failed> {
     if rows_lent < MOST_PAYLOADS {
         return Err(Failed::Refused(Fault::at(1, 0)));
@@ -40,7 +40,7 @@ pub fn decode(alloc: Global, bytes: &[u8], rows_lent: usize) -> Result<Decoded, 
     Ok(found.into_decoded(head, map_info, header, sign)?)
 }
 
-/// The header's fixed bytes, and the bytes behind them.
+/// The header's fixed bytes, and the bytes after them.
 #[derive(Clone, Copy)]
 struct Head<'a> {
     version: u8,
@@ -124,8 +124,8 @@ struct Found {
 }
 
 impl Found {
-    /// Follows the chain through `rest`, which begins at `start`: the payload there has this code, and the
-    /// byte at `named_at` says so.
+    /// Follows the chain through `rest`, which begins at `start`: the payload there has this code,
+    /// and the byte at `named_at` says so.
     fn follow(
         &mut self,
         code: u8,

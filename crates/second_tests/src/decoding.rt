@@ -124,7 +124,7 @@ fn refuses_a_changed_byte(rt: HostRuntime) {
     }
 }
 
-/// 23 empty RANDs before SIGN are taken, and of 24 the SIGN behind them is the 25th.
+/// 23 empty RANDs before SIGN are taken, and of 24 the SIGN after them is the 25th.
 #[test]
 fn refuses_the_25th(rt: HostRuntime) -> Result<(), Fail> {
     for (count, expected) in [(23u8, None), (24, Some(Fault::at(10, 58)))] {

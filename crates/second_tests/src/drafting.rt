@@ -33,8 +33,8 @@ impl Call {
     }
 }
 
-/// Makes the calls on a draft in a buffer like this one, under a sheet that wants T, RAND and SIGN, and
-/// compares the answers.
+/// Makes the calls on a draft in a buffer like this one, under a sheet that wants T, RAND and SIGN,
+/// and compares the answers.
 fn drafted(
     rt: &impl Abort,
     alloc: Global,

@@ -12,7 +12,7 @@ use walk::{lookup, time};
 use wire::{Refusal, Row};
 
 fn stamp(family: &mut Family<'_>, payload: &[u8]) -> io::Result<()> {
-    let ours = time(payload).map_err(Refusal::told);
+    let ours = time(payload).map_err(Refusal::report);
     let theirs = second::time(payload).map_err(told);
     family.answer(ours, theirs, payload)
 }
@@ -35,7 +35,7 @@ fn part(family: &mut Family<'_>, bytes: &[u8], start: u32, length: u32) -> io::R
         start,
         length,
     };
-    let ours = lookup(bytes, &row).map_err(Refusal::told);
+    let ours = lookup(bytes, &row).map_err(Refusal::report);
     let theirs = second::part(bytes, start as usize, length as usize).map_err(told);
     let place = ours.map(|part| part.place as u64);
     let same = match (ours, theirs) {
@@ -46,7 +46,8 @@ fn part(family: &mut Family<'_>, bytes: &[u8], start: u32, length: u32) -> io::R
     family.answer(place, theirs, bytes)
 }
 
-// Every start and length around a message of 13 bytes, and those near the top of two and four bytes.
+// Every start and length around a message of 13 bytes, and those near the top of two and four
+// bytes.
 fn parts(rt: &HostRuntime, totals: &mut Totals) -> io::Result<()> {
     let mut family = Family::new(rt, "parts of the small message by their rows");
     let small = plain(rt.alloc()).small(rt.alloc())?;
@@ -80,7 +81,8 @@ fn parts(rt: &HostRuntime, totals: &mut Totals) -> io::Result<()> {
     family.end(totals)
 }
 
-// The tag by the library, by the second decoder, and by the program, over every split of some bytes into signer and span.
+// The tag by the library, by the second decoder, and by the program, over every split of some bytes
+// into signer and span.
 fn tags(rt: &HostRuntime, totals: &mut Totals) -> io::Result<()> {
     let mut family = Family::new(rt, "tags");
     let small = plain(rt.alloc()).small(rt.alloc())?;

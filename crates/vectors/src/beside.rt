@@ -3,10 +3,10 @@ use crate::outcome::{Outcome, Reading};
 use crate::station::{KEY, Station};
 use second::{Decoded, Failed, Fault};
 use std::alloc::{AllocError, Global};
-use wire::{MOST_PAYLOADS, Row, Told, Walked};
+use wire::{MOST_PAYLOADS, Report, Row, Walked};
 
-pub fn told(fault: Fault) -> Told {
-    Told {
+pub fn told(fault: Fault) -> Report {
+    Report {
         number: fault.number,
         place: fault.place,
         detail: fault.detail,
@@ -18,7 +18,7 @@ pub fn decoded(
     alloc: Global,
     bytes: &[u8],
     lent: usize,
-) -> Result<Result<Decoded, Told>, AllocError> {
+) -> Result<Result<Decoded, Report>, AllocError> {
     match second::decode(alloc, bytes, lent) {
         Ok(decoded) => Ok(Ok(decoded)),
         Err(Failed::Refused(fault)) => Ok(Err(told(fault))),
@@ -56,7 +56,7 @@ fn taken(decoded: &Decoded) -> Outcome {
     reading(decoded).map_or(Outcome::Unlawful, Outcome::Taken)
 }
 
-pub fn walked(decoded: &Result<Decoded, Told>) -> Outcome {
+pub fn walked(decoded: &Result<Decoded, Report>) -> Outcome {
     match decoded {
         Ok(decoded) => taken(decoded),
         Err(told) => Outcome::Refused(*told),
@@ -69,7 +69,7 @@ fn judge(decoded: &Decoded, bytes: &[u8], station: &Station) -> Result<(), Fault
 }
 
 // Under the station's profile and the key tag.
-pub fn judged(decoded: &Result<Decoded, Told>, bytes: &[u8], station: &Station) -> Outcome {
+pub fn judged(decoded: &Result<Decoded, Report>, bytes: &[u8], station: &Station) -> Outcome {
     match decoded {
         Ok(decoded) => match judge(decoded, bytes, station) {
             Ok(()) => taken(decoded),

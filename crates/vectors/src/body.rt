@@ -46,7 +46,7 @@ pub enum Body<'a> {
     },
 }
 
-// A body with a length field of two bytes that need not tell the length of the data behind it.
+// A body with a length field of two bytes that need not tell the length of the data after it.
 pub fn sized(
     alloc: Global,
     code: u8,
@@ -124,7 +124,7 @@ impl Body<'_> {
 }
 
 impl Session<'_> {
-    // Behind what stands in the map info.
+    // After what stands in the map info.
     pub fn write(&self, out: &mut Vec<u8>) -> Result<(), AllocError> {
         let flag = if self.full { 128 } else { 0 };
         let count = one(self.policies.len()) % 128;

@@ -24,7 +24,7 @@ pub struct Header {
     pub map_type: u8,
 }
 
-// All of a payload behind its next-payload byte, and the code that names it.
+// All of a payload after its next-payload byte, and the code that names it.
 #[derive(Drop)]
 pub struct Payload {
     pub code: u8,
@@ -78,7 +78,7 @@ impl Message {
         Ok(bytes)
     }
 
-    // Header and payloads in some order, each naming the one behind it and the last naming SIGN.
+    // Header and payloads in some order, each naming the one after it and the last naming SIGN.
     fn chained(&self, alloc: Global, order: &[&Payload]) -> Result<Vec<u8>, AllocError> {
         let mut bytes = self.head(alloc, order.first().map_or(SIGN, |first| first.code))?;
         for (i, payload) in order.iter().enumerate() {

@@ -10,7 +10,7 @@ use crate::totals::Totals;
 use profile::{Fixed, Sheet, SheetRefusal};
 use std::io;
 use verifier::{KeyTag, TrustList, TrustRefusal};
-use wire::{Told, Walked};
+use wire::{Report, Walked};
 
 // A header of ten bytes and SIGN with the signature AA.
 const SMALL: [u8; 13] = [1, 26, 4, 1, 0x20, 0, 0, 1, 0, 1, 0x20, 1, 0xaa];
@@ -24,8 +24,8 @@ const SMALL_WALKED: Walked = Walked {
     span: 12,
 };
 
-fn refused(number: u8, place: usize, detail: u8) -> Result<Walked, Told> {
-    Err(Told {
+fn refused(number: u8, place: usize, detail: u8) -> Result<Walked, Report> {
+    Err(Report {
         number,
         place,
         detail,
@@ -44,7 +44,7 @@ fn with(at: usize, byte: u8) -> [u8; 13] {
 fn walked(family: &mut Family<'_>) -> io::Result<()> {
     let longer = [1, 26, 4, 1, 0x20, 0, 0, 1, 0, 1, 0x20, 1, 0xaa, 0];
     let no_length = [1, 26, 4, 1, 0x20, 0, 0, 1, 0, 1, 0x20, 0];
-    let cases: [(&str, &[u8], Result<Walked, Told>); 10] = [
+    let cases: [(&str, &[u8], Result<Walked, Report>); 10] = [
         ("the small message", &SMALL, Ok(SMALL_WALKED)),
         ("its last byte off", &SMALL[..12], refused(11, 10, 0)),
         ("a byte added", &longer, refused(13, 13, 0)),
@@ -87,12 +87,12 @@ fn judged(family: &mut Family<'_>, sheet: &Station) -> io::Result<()> {
 
 // A sheet's text, and the refusal of its second line.
 fn sheet_line(family: &mut Family<'_>, text: &[u8], number: u8) -> io::Result<()> {
-    let expected = Err(Told {
+    let expected = Err(Report {
         number,
         place: 21,
         detail: 0,
     });
-    let ours = Sheet::parse(text).map(|_| 0).map_err(SheetRefusal::told);
+    let ours = Sheet::parse(text).map(|_| 0).map_err(SheetRefusal::report);
     let theirs = second::Sheet::parse(text).map(|_| 0).map_err(told);
     family.answer(ours, expected, text)?;
     family.answer(theirs, expected, text)
@@ -117,8 +117,8 @@ fn trusted(family: &mut Family<'_>) -> io::Result<()> {
     ];
     let expected = [27, 27, 0, 0, 0, 0, 0, 0, 0, 0, 28, 0];
     for (signer, number) in signers.into_iter().zip(expected) {
-        let ours = list.enter(signer).map(|_| 0).map_err(TrustRefusal::told);
-        let told = Told {
+        let ours = list.enter(signer).map(|_| 0).map_err(TrustRefusal::report);
+        let told = Report {
             number,
             place: 0,
             detail: 0,
@@ -128,7 +128,8 @@ fn trusted(family: &mut Family<'_>) -> io::Result<()> {
     Ok(())
 }
 
-// The tag of the span 01 02 with key 0 is 130, and the small message is the one that a verifier pinned to it passes.
+// The tag of the span 01 02 with key 0 is 130, and the small message is the one that a verifier
+// pinned to it passes.
 fn signatures(family: &mut Family<'_>) -> io::Result<()> {
     let ours = u64::from_be_bytes(KeyTag { key: 0 }.sign(&[], &[1, 2]));
     family.answer(Ok(ours), Ok(130), &[1, 2])?;

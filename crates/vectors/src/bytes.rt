@@ -15,7 +15,8 @@ pub struct Bytes<'a> {
     pub station: Option<&'a Station>,
 }
 
-// What a byte is changed to: the ends of its range, its neighbours, and itself with the top bit flipped.
+// What a byte is changed to: the ends of its range, its neighbours, and itself with the top bit
+// flipped.
 fn others(byte: u8) -> [u8; 5] {
     [
         0,
@@ -36,7 +37,7 @@ impl Bytes<'_> {
         Ok(())
     }
 
-    // Cut behind each byte, and before the first.
+    // Cut after each byte, and before the first.
     pub fn cuts(&self, totals: &mut Totals) -> io::Result<()> {
         let mut family = Family::of(self.rt, "cut at every byte: ", self.name);
         for end in 0..self.bytes.len() {

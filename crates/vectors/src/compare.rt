@@ -5,7 +5,7 @@ use crate::outcome::Outcome;
 use crate::station::Station;
 use second::Decoded;
 use std::alloc::{AllocError, Global};
-use wire::Told;
+use wire::Report;
 
 // How many rows are lent where a vector does not say: two more than a message fills.
 pub const LENT: usize = 26;
@@ -77,7 +77,7 @@ fn difference(
 fn walked(
     alloc: Global,
     vector: &Vector<'_>,
-    decoded: &Result<Decoded, Told>,
+    decoded: &Result<Decoded, Report>,
 ) -> Result<Comparison, AllocError> {
     let ours = ours::walked(vector.bytes, vector.lent);
     let mut comparison = compared(&ours, beside::walked(decoded), "walk");

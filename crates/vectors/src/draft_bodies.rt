@@ -50,7 +50,8 @@ impl Piece {
 
 pub type Made = Result<Vec<u8>, AllocError>;
 
-// Makes bytes. The values of fields are those that profiles take, but `odd` times in a hundred; data has at most `longest` bytes.
+// Makes bytes. The values of fields are those that profiles take, but `odd` times in a hundred;
+// data has at most `longest` bytes.
 #[derive(Drop)]
 pub struct Maker {
     pub alloc: Global,
@@ -185,8 +186,9 @@ impl Maker {
         }
     }
 
-    // A body of the right extent whose rule inside is broken, if its kind has such a rule: a TS type, items that are not whole, or a SAKKE
-    // payload inside that is longer or shorter than the data is.
+    // A body of the right extent whose rule inside is broken, if its kind has such a rule: a TS
+    // type, items that are not whole, or a SAKKE payload inside that is longer or shorter than the
+    // data is.
     pub fn with_broken_rule(&mut self, piece: Piece) -> Made {
         let mut body = self.good(piece)?;
         let by = self.generator.one_of(&[1, 255, 2, 128], 1);

@@ -1,7 +1,7 @@
 // A call on a draft with the bytes that it is given, so that a list of calls can be kept.
 use crate::draft_profiles::{Name, Profiles};
 use plain::{Call, Head};
-use profile::Choice;
+use profile::AnyProfile;
 
 #[derive(Drop)]
 pub struct OwnedHead {
@@ -37,7 +37,7 @@ pub enum OwnedCall {
 
 impl OwnedCall {
     // As our draft is given it.
-    pub fn lent<'a>(&'a self, profiles: &'a Profiles) -> Call<'a, Choice> {
+    pub fn lent<'a>(&'a self, profiles: &'a Profiles) -> Call<'a, AnyProfile> {
         match self {
             OwnedCall::Head(head) => Call::Head(Head {
                 byte3: head.byte3,

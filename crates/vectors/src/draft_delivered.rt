@@ -17,8 +17,8 @@ fn same_row(row: &Row, other: &second::Row) -> bool {
         && row.length as usize == other.length
 }
 
-// Whether our read tells of a message what the second library decoded. It is given the signer, the span and the signature of that one
-// to verify it by.
+// Whether our read tells of a message what the second library decoded. It is given the signer, the
+// span and the signature of that one to verify it by.
 fn read_as(bytes: &[u8], both: &Both, decoded: &Decoded) -> bool {
     let pinned = Pinned {
         signer: &decoded.signer,
@@ -51,7 +51,8 @@ fn read_alike(alloc: Global, bytes: &[u8], both: &Both) -> Result<bool, AllocErr
     }
 }
 
-// How many messages were delivered and read alike, up to the first that was not, and the call that delivered this one.
+// How many messages were delivered and read alike, up to the first that was not, and the call that
+// delivered this one.
 pub fn read_all(
     alloc: Global,
     list: &List,

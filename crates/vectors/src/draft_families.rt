@@ -84,7 +84,8 @@ impl Family {
         }
     }
 
-    // How often a field has another value than profiles take, in a hundred, and how long data is at most.
+    // How often a field has another value than profiles take, in a hundred, and how long data is at
+    // most.
     fn bodies(self) -> (usize, usize) {
         match self {
             Family::Heads | Family::LittleRoom => (10, 6),

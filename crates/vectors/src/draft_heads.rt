@@ -4,7 +4,8 @@ use crate::draft_calls::OwnedHead;
 use std::alloc::AllocError;
 
 impl Maker {
-    // How long the data of a session is: mostly one of the two lawful lengths, where the longer one goes with its S flag.
+    // How long the data of a session is: mostly one of the two lawful lengths, where the longer one
+    // goes with its S flag.
     fn data_length(&mut self, long: u8, odd: usize) -> u8 {
         if self.generator.happens(odd) {
             self.generator.one_of(&[1, 3, 4, 5, 9, 10, 11], 1)
@@ -13,7 +14,8 @@ impl Maker {
         }
     }
 
-    // A session with few policy numbers and a short SPI. So many times in a hundred its Prot type or the length of its data is wrong.
+    // A session with few policy numbers and a short SPI. So many times in a hundred its Prot type
+    // or the length of its data is wrong.
     fn session(&mut self, info: &mut Vec<u8>, odd: usize) -> Result<(), AllocError> {
         let (flag, long) = self.generator.one_of(&[(0, 4), (128, 10)], (0, 4));
         let policies = self.generator.one_of(&[0, 0, 1, 2, 5], 0);

@@ -28,7 +28,8 @@ impl What {
     }
 }
 
-// The first call after which something did not agree, what we answered, and how long our encoding then was.
+// The first call after which something did not agree, what we answered, and how long our encoding
+// then was.
 #[derive(Clone, Copy)]
 pub struct Mismatch {
     pub what: What,
@@ -44,7 +45,7 @@ pub fn same_answer(reply: Reply, answer: &Answer) -> bool {
             length == *other
         }
         (Reply::Refused(refusal), Answer::Refused(fault)) => {
-            let told = refusal.told();
+            let told = refusal.report();
             told.number == fault.number && told.place == fault.place && told.detail == fault.detail
         }
         _ => false,
@@ -62,8 +63,8 @@ pub fn unlike(reply: Reply, encoding: &[u8], step: &Step) -> Option<What> {
     }
 }
 
-// Whether a buffer of a draft that holds so many bytes has zeros behind those, up to the end of the bytes that count, and past
-// them what was there before.
+// Whether a buffer of a draft that holds so many bytes has zeros after those, up to the end of the
+// bytes that count, and past them what was there before.
 fn is_left(buffer: &[u8], held: usize, fill: u8) -> bool {
     let counted = buffer.len().min(LONGEST);
     let zeros = buffer.get(held..counted).unwrap_or(&[1]);
@@ -71,12 +72,13 @@ fn is_left(buffer: &[u8], held: usize, fill: u8) -> bool {
     zeros.iter().all(|byte| *byte == 0) && rest.iter().all(|byte| *byte == fill)
 }
 
-// Whether a whole buffer is as the second library has it, and as it has to be behind the encoding.
+// Whether a whole buffer is as the second library has it, and as it has to be after the encoding.
 pub fn same_buffer(buffer: &[u8], list: &List, step: &Step) -> bool {
     buffer == step.buffer.as_slice() && is_left(buffer, step.encoding.len(), list.fill)
 }
 
-// Makes all calls, and compares after each. A draft that is out can't be let go, so that the first mismatch is kept until the end.
+// Makes all calls, and compares after each. A draft that is out can't be let go, so that the first
+// mismatch is kept until the end.
 pub fn run_calls(
     buffer: &mut [u8],
     list: &List,

@@ -1,5 +1,5 @@
-// A list of calls in the making. What is noted beside the calls is what a draft should then hold, so that the calls that follow mostly
-// fit. It is a guess: nothing that is compared rests on it.
+// A list of calls in the making. What is noted beside the calls is what a draft should then hold,
+// so that the calls that follow mostly fit. It is a guess: nothing that is compared rests on it.
 ghost use Rattle.std.specs.Prelude.{◌≤◌};
 
 use crate::draft_bodies::{Maker, Piece};
@@ -114,7 +114,7 @@ impl Plan {
         self.add_body(position, piece, body)
     }
 
-    // At the position behind the last, or at any.
+    // At the position after the last, or at any.
     pub fn append(&mut self, piece: Piece) -> Planned {
         let behind = self.noted.len();
         self.add(behind, piece)

@@ -56,7 +56,7 @@ impl Plan {
         Ok(())
     }
 
-    // Some payloads one behind the other.
+    // Some payloads one after the other.
     fn append_all(&mut self, pieces: &[Piece]) -> Planned {
         for piece in pieces {
             self.append(*piece)?;

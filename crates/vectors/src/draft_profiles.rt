@@ -1,6 +1,6 @@
 // The profiles that closes are given, as each library has them.
 use anyhow::anyhow;
-use profile::{Choice, Fixed, Sheet};
+use profile::{AnyProfile, Fixed, Sheet};
 use second::Rules;
 
 #[derive(Clone, Copy, PartialEq, Eq)]
@@ -32,7 +32,7 @@ impl Name {
 
 #[derive(Drop)]
 pub struct Both {
-    pub ours: Choice,
+    pub ours: AnyProfile,
     pub seconds: Rules,
 }
 
@@ -91,7 +91,7 @@ pub struct Profiles {
 }
 
 fn fixed(ours: Fixed, seconds: Rules) -> Both {
-    let ours = Choice::Fixed(ours);
+    let ours = AnyProfile::Fixed(ours);
     Both { ours, seconds }
 }
 
@@ -102,7 +102,7 @@ fn sheet(text: &[u8]) -> anyhow::Result<Both> {
         anyhow!("the second library's sheet: {number}")
     })?;
     Ok(Both {
-        ours: Choice::Sheet(ours),
+        ours: AnyProfile::Sheet(ours),
         seconds: Rules::Sheet(seconds),
     })
 }

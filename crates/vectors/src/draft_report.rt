@@ -54,7 +54,7 @@ impl Tally {
             Reply::Released(_) => up(&mut self.released),
             Reply::Misplaced => up(&mut self.misplaced),
             Reply::Refused(refusal) => {
-                let number = usize::from(refusal.told().number);
+                let number = usize::from(refusal.report().number);
                 if let Some(count) = self.refused.get_mut(number) {
                     up(count);
                 }
@@ -123,7 +123,7 @@ fn tell_reply(rt: &HostRuntime, reply: Reply) -> io::Result<()> {
         Reply::Released(length) => print!(rt; "released {length}"),
         Reply::Misplaced => print!(rt; "misplaced"),
         Reply::Refused(refusal) => {
-            let told = refusal.told();
+            let told = refusal.report();
             print!(rt; "refused {told}")
         }
     }
@@ -154,7 +154,8 @@ fn others(step: &Step, what: What) -> &[u8] {
     }
 }
 
-// The line of a disagreement: what did not agree, and then of ours and of the second library's the answer, and the bytes in question.
+// The line of a disagreement: what did not agree, and then of ours and of the second library's the
+// answer, and the bytes in question.
 pub fn tell_mismatch(
     rt: &HostRuntime,
     family: Family,

@@ -1,4 +1,5 @@
-// What the second library says of a list: after each call its answer, the encoding, what a signature is over, and the whole buffer.
+// What the second library says of a list: after each call its answer, the encoding, what a
+// signature is over, and the whole buffer.
 use crate::draft_calls::OwnedCall;
 use crate::draft_families::List;
 use crate::draft_profiles::Profiles;

@@ -1,11 +1,12 @@
-// A list run through `Open` and `Out`, whose calls are those of a draft in one state. An `Out` also shows what a signature is over.
+// A list run through `Open` and `Out`, whose calls are those of a draft in one state. An `Out` also
+// shows what a signature is over.
 use crate::draft_families::List;
 use crate::draft_ours::{Mismatch, What, same_answer, same_buffer, unlike};
 use crate::draft_profiles::Profiles;
 use crate::draft_seconds::Step;
 use drafter::{Open, Out, begin};
 use plain::{Call, Head, Reply};
-use profile::Choice;
+use profile::AnyProfile;
 
 // A draft as its state's type has it, or the buffer of one that was released.
 enum Typed<'a> {
@@ -14,7 +15,7 @@ enum Typed<'a> {
     Released(&'a mut [u8]),
 }
 
-fn edit(open: &mut Open<'_>, call: &Call<'_, Choice>) -> Reply {
+fn edit(open: &mut Open<'_>, call: &Call<'_, AnyProfile>) -> Reply {
     match *call {
         Call::Head(
             Head {
@@ -40,7 +41,7 @@ fn edit(open: &mut Open<'_>, call: &Call<'_, Choice>) -> Reply {
     }
 }
 
-fn call_open<'a>(mut open: Open<'a>, call: &Call<'_, Choice>) -> (Typed<'a>, Reply) {
+fn call_open<'a>(mut open: Open<'a>, call: &Call<'_, AnyProfile>) -> (Typed<'a>, Reply) {
     if let Call::Close {
         profile,
         sign_type,
@@ -54,7 +55,7 @@ fn call_open<'a>(mut open: Open<'a>, call: &Call<'_, Choice>) -> (Typed<'a>, Rep
     (Typed::Open(open), reply)
 }
 
-fn call_out<'a>(mut out: Out<'a>, call: &Call<'_, Choice>) -> (Typed<'a>, Reply) {
+fn call_out<'a>(mut out: Out<'a>, call: &Call<'_, AnyProfile>) -> (Typed<'a>, Reply) {
     match call {
         Call::Sign(signature) => {
             let reply = out.sign(signature).into();
@@ -70,7 +71,7 @@ fn call_out<'a>(mut out: Out<'a>, call: &Call<'_, Choice>) -> (Typed<'a>, Reply)
 }
 
 impl<'a> Typed<'a> {
-    fn call(self, call: &Call<'_, Choice>) -> (Typed<'a>, Reply) {
+    fn call(self, call: &Call<'_, AnyProfile>) -> (Typed<'a>, Reply) {
         match self {
             Typed::Open(open) => call_open(open, call),
             Typed::Out(out) => call_out(out, call),
@@ -103,7 +104,8 @@ impl<'a> Typed<'a> {
     }
 }
 
-// Makes all calls, and compares after each. A draft that is out can't be let go, so that the first mismatch is kept until the end.
+// Makes all calls, and compares after each. A draft that is out can't be let go, so that the first
+// mismatch is kept until the end.
 pub fn run_typed(
     buffer: &mut [u8],
     list: &List,

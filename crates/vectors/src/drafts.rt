@@ -9,7 +9,8 @@ use crate::draft_typed::run_typed;
 use crate::totals::Totals;
 use std::io;
 
-// After how many calls a draft is ended to see its whole buffer: after each where the buffer is short, in every fourth list.
+// After how many calls a draft is ended to see its whole buffer: after each where the buffer is
+// short, in every fourth list.
 fn stride(list: &List) -> usize {
     if list.length < 400 && list.seed % 4 == 0 {
         1

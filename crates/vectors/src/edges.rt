@@ -1,4 +1,5 @@
-// What the families of edges have in common: the small message's header, some payloads, and SIGN with the signature AA.
+// What the families of edges have in common: the small message's header, some payloads, and SIGN
+// with the signature AA.
 use crate::build::{Header, Message, Payload};
 use crate::compare::Vector;
 use crate::family::Family;

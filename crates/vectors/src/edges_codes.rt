@@ -8,7 +8,8 @@ use crate::totals::Totals;
 use itertools::iproduct;
 use std::io;
 
-// A payload of each code, behind so many empty RANDs. Its bytes are those of a T or an empty RAND, IDR, SP, SAKKE or EXT of type 0.
+// A payload of each code, after so many empty RANDs. Its bytes are those of a T or an empty RAND,
+// IDR, SP, SAKKE or EXT of type 0.
 fn codes(rt: &HostRuntime, totals: &mut Totals) -> io::Result<()> {
     let mut family = Family::new(rt, "every code as first, second, 24th and 25th");
     for (before, code, length) in iproduct!([0, 1, 22, 23, 24], 0..=255, [0, 1, 3, 4, 9]) {
@@ -43,7 +44,7 @@ fn roles_and_types(rt: &HostRuntime, totals: &mut Totals) -> io::Result<()> {
     family.end(totals)
 }
 
-// SIGN behind so many empty RANDs, whole and cut at every byte.
+// SIGN after so many empty RANDs, whole and cut at every byte.
 fn counts(rt: &HostRuntime, totals: &mut Totals) -> io::Result<()> {
     let mut family = Family::new(rt, "0 to 30 payloads before SIGN, cut at every byte");
     for count in 0..=30 {

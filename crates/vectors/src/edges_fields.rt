@@ -27,8 +27,9 @@ pub const WIDE: &[u8] = b"slot least most rank
 12 0 24 0
 ";
 
-// Places in the message below: the payload, and the byte of its body. The ID types, the Prot type, SAKKE params and ID scheme, those of
-// the SAKKE inside EXT, and the ID type of an IDR of another role.
+// Places in the message below: the payload, and the byte of its body. The ID types, the Prot type,
+// SAKKE params and ID scheme, those of the SAKKE inside EXT, and the ID type of an IDR of another
+// role.
 const PLACES: [(usize, usize); 10] = [
     (2, 1),
     (3, 1),

@@ -8,7 +8,8 @@ use crate::totals::Totals;
 use itertools::iproduct;
 use std::io;
 
-// The last four make messages of 8,191 to 8,194 bytes, where three bytes stand before the length field.
+// The last four make messages of 8,191 to 8,194 bytes, where three bytes stand before the length
+// field.
 const LENGTHS: [usize; 15] = [
     0, 1, 2, 15, 16, 255, 256, 257, 4095, 4096, 8172, 8173, 8174, 8175, 8176,
 ];

@@ -14,7 +14,8 @@ fn policy(rt: &HostRuntime, family: &mut Family<'_>, params: &[u8]) -> io::Resul
     walk_one(rt.alloc(), family, payload)
 }
 
-// The digits of a number, each 0 to 3, where 0 has none, 1 to 4 have one, 5 to 20 two, and so on. How many there are.
+// The digits of a number, each 0 to 3, where 0 has none, 1 to 4 have one, 5 to 20 two, and so on.
+// How many there are.
 fn digits(number: u32, params: &mut [u8]) -> usize {
     let mut left = number;
     let mut length = 0;
@@ -74,7 +75,7 @@ fn inner_cut(rt: &HostRuntime, totals: &mut Totals) -> io::Result<()> {
     family.end(totals)
 }
 
-// What the inner next-payload byte may be, and the params and the scheme behind it: anything.
+// What the inner next-payload byte may be, and the params and the scheme after it: anything.
 fn inner_bytes(rt: &HostRuntime, totals: &mut Totals) -> io::Result<()> {
     let mut family = Family::new(rt, "every value of each byte of an EXT of type 6");
     for (at, byte) in iproduct!(0..5, 0..=255) {

@@ -6,7 +6,7 @@ use crate::totals::Totals;
 use hex::encode;
 use std::fmt::Display;
 use std::io;
-use wire::{Told, Walked};
+use wire::{Report, Walked};
 
 // How many differences of a family are told with their bytes. The others are only counted.
 const TOLD: u64 = 8;
@@ -86,7 +86,7 @@ impl<'a> Family<'a> {
         &mut self,
         name: &str,
         vector: &Vector<'_>,
-        expected: Result<Walked, Told>,
+        expected: Result<Walked, Report>,
     ) -> io::Result<()> {
         let Comparison {
             ours,
@@ -105,11 +105,12 @@ impl<'a> Family<'a> {
         println!(self.rt; "{name}: ours {ours}, second {theirs}, {word}")
     }
 
-    // Answers of another call than walk and read, each either a number or a refusal; and the bytes that it was given.
+    // Answers of another call than walk and read, each either a number or a refusal; and the bytes
+    // that it was given.
     pub fn answer(
         &mut self,
-        ours: Result<u64, Told>,
-        theirs: Result<u64, Told>,
+        ours: Result<u64, Report>,
+        theirs: Result<u64, Report>,
         bytes: &[u8],
     ) -> io::Result<()> {
         match ours {

@@ -32,8 +32,8 @@ pub const GROUP: Table = Table {
     session: None,
 };
 
-// A protected payload: its type, a time since 1970, its ID and number, the algorithm, the IV, the key's ID; then type, length and
-// content type of what it protects.
+// A protected payload: its type, a time since 1970, its ID and number, the algorithm, the IV, the
+// key's ID; then type, length and content type of what it protects.
 pub fn key_parameters(alloc: Global) -> Result<Vec<u8>, AllocError> {
     let seconds = SECONDS.saturating_sub(2_208_988_800);
     let mut content = Vec::from_slice(alloc, &[0xc3])?;

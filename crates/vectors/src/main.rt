@@ -1,4 +1,5 @@
-// Runs vectors through the library and through a second decoder that was made without it, and tells where the two differ.
+// Runs vectors through the library and through a second decoder that was made without it, and tells
+// where the two differ.
 #![tactic(auto)]
 
 mod answers;

@@ -1,4 +1,5 @@
-// The messages of the standards' tables, one for each key and each way that it goes, and the small message tried by hand.
+// The messages of the standards' tables, one for each key and each way that it goes, and the small
+// message tried by hand.
 use crate::body::{Body, scattered};
 use crate::build::Message;
 use crate::keys::{CLIENT_SERVER, GROUP, PRINTED_URI, PRIVATE_CALL, key_parameters};
@@ -6,8 +7,8 @@ use crate::table::{SERVICE, SESSION, SHORT_SESSION, Table, USER_A};
 use profile::Fixed;
 use std::alloc::{AllocError, Global};
 
-// By which profile the variants of a message are judged: the fixed one that it is for, or the sheet of the tables' order where that one
-// does not admit it.
+// By which profile the variants of a message are judged: the fixed one that it is for, or the sheet
+// of the tables' order where that one does not admit it.
 #[derive(Clone, Copy)]
 pub enum By {
     Profile,
@@ -59,7 +60,8 @@ impl List {
             responder: USER_A,
             ..CLIENT_SERVER
         };
-        // The table prints the purpose of a private call key, and names that of a client-server key.
+        // The table prints the purpose of a private call key, and names that of a client-server
+        // key.
         let printed = Table {
             csb: 0x1000_0001,
             ..downloaded

@@ -18,7 +18,8 @@ const BEFORE: Row = Row {
 // The longest table of rows that is lent.
 const ROOM: usize = 32;
 
-// An outcome, and whether the rows that no answer may touch are as they were: all after a refusal, those behind the 24th else.
+// An outcome, and whether the rows that no answer may touch are as they were: all after a refusal,
+// those after the 24th else.
 #[derive(Drop)]
 pub struct Answer {
     pub outcome: Outcome,
@@ -40,7 +41,7 @@ fn told_in(told: Result<Walked, Refusal>, table: &[Row; ROOM]) -> Answer {
             }
         }
         Err(refusal) => Answer {
-            outcome: Outcome::Refused(refusal.told()),
+            outcome: Outcome::Refused(refusal.report()),
             kept: untouched(table),
         },
     }

@@ -1,6 +1,6 @@
 // What a decoder says of a message.
 use std::fmt;
-use wire::{MOST_PAYLOADS, Row, Told, Walked};
+use wire::{MOST_PAYLOADS, Report, Row, Walked};
 
 // A message that is taken: its three numbers and its rows, blank after the last.
 #[derive(Clone, Copy, PartialEq, Eq)]
@@ -13,14 +13,14 @@ pub struct Reading {
 #[derive(Clone, Copy, PartialEq, Eq)]
 pub enum Outcome {
     Taken(Reading),
-    Refused(Told),
+    Refused(Report),
     // More rows, or longer ones, than a table of rows can hold.
     Unlawful,
 }
 
 impl Outcome {
     // Without the rows.
-    pub fn brief(&self) -> Option<Result<Walked, Told>> {
+    pub fn brief(&self) -> Option<Result<Walked, Report>> {
         match self {
             Outcome::Taken(reading) => Some(Ok(reading.walked)),
             Outcome::Refused(told) => Some(Err(*told)),
@@ -31,7 +31,7 @@ impl Outcome {
 
 // A message, or an answer of another call, as it is printed: what was taken, or the refusal.
 #[derive(Clone, Copy)]
-pub struct Said<T>(pub Result<T, Told>);
+pub struct Said<T>(pub Result<T, Report>);
 
 // The three numbers, as they are printed.
 fn write_numbers<W: fmt::Write>(f: &mut fmt::Formatter<W>, walked: &Walked) -> fmt::Result {

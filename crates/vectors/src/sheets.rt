@@ -8,11 +8,11 @@ use crate::named;
 use crate::station::{KEY, Station};
 use crate::totals::Totals;
 use itertools::iproduct;
-use profile::{Choice, Sheet};
+use profile::{AnyProfile, Sheet};
 use second::Rules;
 use std::io;
 
-// What may stand behind the names.
+// What may stand after the names.
 const TAILS: [&str; 48] = [
     "",
     "\n",
@@ -88,7 +88,7 @@ impl Probes {
     fn run(&self, family: &mut Family<'_>, text: &[u8]) -> io::Result<()> {
         let (ours, theirs) = (Sheet::parse(text), second::Sheet::parse(text));
         family.answer(
-            ours.as_ref().map(|_| 0).map_err(|refusal| refusal.told()),
+            ours.as_ref().map(|_| 0).map_err(|refusal| refusal.report()),
             theirs.map(|_| 0).map_err(told),
             text,
         )?;
@@ -96,7 +96,7 @@ impl Probes {
             return Ok(());
         };
         let station = Station {
-            ours: Choice::Sheet(ours),
+            ours: AnyProfile::Sheet(ours),
             theirs: Rules::Sheet(theirs),
         };
         for bytes in &self.messages {

@@ -1,5 +1,5 @@
 // By what a message is judged: the same profile for both decoders, and the key of the tag.
-use profile::{Choice, Fixed, Sheet};
+use profile::{AnyProfile, Fixed, Sheet};
 use second::Rules;
 
 // The key that signs every named message.
@@ -7,7 +7,7 @@ pub const KEY: u64 = 0x0123_4567_89ab_cdef;
 
 #[derive(Drop)]
 pub struct Station {
-    pub ours: Choice,
+    pub ours: AnyProfile,
     pub theirs: Rules,
 }
 
@@ -19,14 +19,14 @@ impl Station {
             Fixed::Gmk => Rules::Gmk,
         };
         Station {
-            ours: Choice::Fixed(fixed),
+            ours: AnyProfile::Fixed(fixed),
             theirs,
         }
     }
 
     // A sheet that both take.
     pub fn sheet(text: &[u8]) -> Option<Station> {
-        let ours = Choice::Sheet(Sheet::parse(text).ok()?);
+        let ours = AnyProfile::Sheet(Sheet::parse(text).ok()?);
         let theirs = Rules::Sheet(second::Sheet::parse(text).ok()?);
         Some(Station { ours, theirs })
     }

@@ -107,7 +107,8 @@ impl Table {
         }
     }
 
-    // Time, random bytes, the four identities, a policy where there is a session, the key, and the extensions.
+    // Time, random bytes, the four identities, a policy where there is a session, the key, and the
+    // extensions.
     pub fn message(&self, alloc: Global, extensions: &[Body<'_>]) -> Result<Message, AllocError> {
         let random = scattered(alloc, 16, 5)?;
         let sakke = scattered(alloc, 273, 9)?;

@@ -7,17 +7,17 @@ use wire::Refusal;
 
 #[derive(Debug, Drop, Error)]
 pub enum Fault<'a> {
-    #[error("{file} refused {told} {refusal}", told = .refusal.told())]
+    #[error("{file} refused {told} {refusal}", told = .refusal.report())]
     Refused {
         file: &'a str,
         refusal: Refusal,
     },
-    #[error("{file} refused {told} {refusal}", told = .refusal.told())]
+    #[error("{file} refused {told} {refusal}", told = .refusal.report())]
     SheetRefused {
         file: &'a str,
         refusal: SheetRefusal,
     },
-    #[error("{file} refused {told} {refusal} (line {line})", told = .refusal.told())]
+    #[error("{file} refused {told} {refusal} (line {line})", told = .refusal.report())]
     LineRefused {
         file: &'a str,
         line: usize,

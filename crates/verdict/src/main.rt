@@ -8,7 +8,7 @@ mod trust;
 use anyhow::bail;
 use arguments::{Arguments, Rules, parse};
 use fault::Fault;
-use profile::{Choice, Sheet};
+use profile::{AnyProfile, Sheet};
 use reader::read;
 use std::io::Read;
 use std::{env, fs, io};
@@ -44,7 +44,7 @@ fn text_in<'a>(rt: &HostRuntime, file: &'a str) -> Result<Vec<u8>, Fault<'a>> {
 fn verdict<'a, V: Verifier>(
     rt: &HostRuntime,
     file: &'a str,
-    profile: &Choice,
+    profile: &AnyProfile,
     verifier: &V,
 ) -> Result<(), Fault<'a>> {
     let message = message_in(rt, file)?;
@@ -68,7 +68,7 @@ fn tell(rt: &HostRuntime, fault: Fault<'_>) -> io::Result<()> {
 fn verdicts<V: Verifier>(
     rt: &HostRuntime,
     files: &[String],
-    profile: &Choice,
+    profile: &AnyProfile,
     verifier: &V,
 ) -> io::Result<()> {
     for file in files {
@@ -80,14 +80,14 @@ fn verdicts<V: Verifier>(
 }
 
 // The program draft reads a sheet by two lines of its own too, and tells a fault in other words.
-fn chosen<'a>(rt: &HostRuntime, rules: Rules<'a>) -> Result<Choice, Fault<'a>> {
+fn chosen<'a>(rt: &HostRuntime, rules: Rules<'a>) -> Result<AnyProfile, Fault<'a>> {
     let file = match rules {
-        Rules::Fixed(fixed) => return Ok(Choice::Fixed(fixed)),
+        Rules::Fixed(fixed) => return Ok(AnyProfile::Fixed(fixed)),
         Rules::Sheet(file) => file,
     };
     let text = text_in(rt, file)?;
     let sheet = Sheet::parse(&text).map_err(|refusal| Fault::SheetRefused { file, refusal })?;
-    Ok(Choice::Sheet(sheet))
+    Ok(AnyProfile::Sheet(sheet))
 }
 
 fn trusting<'a>(

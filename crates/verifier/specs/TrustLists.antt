@@ -1,7 +1,7 @@
 -- The trust list over any verifier.
 use Rattle.std.specs.Prelude.{ℕ, Bool, ◌&&◌, List}
-use Rattle.verifier.specs.Signed.{Signed}
-use Rattle.verifier.specs.Signers.{on_list}
+use Rattle.verifier.specs.Signed.{Triple}
+use Rattle.verifier.specs.Signers.{is_on_list}
 
 -- what a trust list is seen as: the verifier below, and the signers on it
 pub record Trust (V : Type 0) : Type 0 where
@@ -9,5 +9,5 @@ pub record Trust (V : Type 0) : Type 0 where
   pub signers : List (List ℕ)
 
 -- on the list, and passed below
-abbrev pub trust_passes : (Signed → Bool) → List (List ℕ) → Signed → Bool
-trust_passes below list s = on_list list s.signer && below s
+abbrev pub trust_passes : (Triple → Bool) → List (List ℕ) → Triple → Bool
+trust_passes below list s = is_on_list list s.signer && below s

@@ -3,8 +3,9 @@ ghost use Rattle.std.specs.Prelude.{◌≡◌};
 ghost use Rattle.std.specs.Str.{bytes_eq};
 ghost use Rattle.verifier.specs.Identities.{same_identity};
 
-// Without an early end, which `a == b` has: so how long it takes says nothing of where two signatures differ. By one index for both,
-// since a fold over a zip was tried, and the check leaves its result to be shown.
+// Without an early end, which `a == b` has: so how long it takes says nothing of where two
+// signatures differ. By one index for both, since a fold over a zip was tried, and the check leaves
+// its result to be shown.
 pub fn same_bytes(a: &[u8], b: &[u8]) -> bool
     ensures { result ≡ bytes_eq a.now b.now }
 {

@@ -1,4 +1,5 @@
-// Up to so many items, each in a place of its own. The libraries rest on std alone, which has no such type without a heap.
+// Up to so many items, each in a place of its own. The libraries rest on std alone, which has no
+// such type without a heap.
 ghost use Rattle.std.specs.Prelude.{◌≡◌, ℕ, ◌+◌, ◌<◌, ◌≤◌, [], ◌∷◌, ◌++◌, length, take, nat_le};
 ghost use Rattle.std.specs.Bool.{⊤};
 

@@ -1,12 +1,12 @@
 // What every verifier answers.
 ghost use Rattle.std.specs.Prelude.{◌≡◌, Bool};
-ghost use Rattle.verifier.specs.Signed.{Signed, signed};
+ghost use Rattle.verifier.specs.Signed.{Triple, triple};
 
-// Its meaning is the set of what it passes; asking alters nothing. The three parts go as they stand in a message: a struct of them
-// would be made at each call only to be taken apart again.
+// Its meaning is the set of what it passes; asking alters nothing. The three parts go as they stand
+// in a message: a struct of them would be made at each call only to be taken apart again.
 pub trait Verifier {
-    ghost passing: { Self → Signed → Bool };
+    ghost passing: { Self → Triple → Bool };
 
     fn passes(&self, signer: &[u8], span: &[u8], signature: &[u8]) -> bool
-        ensures { result ≡ passing self.now (signed signer.now span.now signature.now) };
+        ensures { result ≡ passing self.now (triple signer.now span.now signature.now) };
 }

@@ -1,7 +1,7 @@
 // A verifier by a tag over the signer and the span.
 ghost use Rattle.std.specs.Prelude.{◌≡◌, ◌++◌};
 ghost use Rattle.wire.specs.Octets.{in_bytes};
-ghost use Rattle.verifier.specs.Tags.{turned, tag, tag_passes};
+ghost use Rattle.verifier.specs.Tags.{tag_step, tag, tag_passes};
 
 use crate::compare::same_bytes;
 use crate::interface::Verifier;
@@ -12,23 +12,23 @@ pub struct KeyTag {
 }
 
 // The tag so far, one byte on.
-fn turn(t: u64, b: u8) -> u64
-    ensures { result ≡ turned t b }
+fn tag_step(t: u64, b: u8) -> u64
+    ensures { result ≡ tag_step t b }
 {
     t.rotate_left(7).wrapping_add(b as u64)
 }
 
-fn turn_all(start: u64, bytes: &[u8]) -> u64
+fn tag_steps(start: u64, bytes: &[u8]) -> u64
     ensures { result ≡ tag start bytes.now }
 {
-    bytes.iter().fold(start, |t, b| turn(t, *b))
+    bytes.iter().fold(start, |t, b| tag_step(t, *b))
 }
 
 // In two folds, since one over a chain of both takes more than twice as long.
 fn tag_over(key: u64, signer: &[u8], span: &[u8]) -> u64
     ensures { result ≡ tag key (signer.now ++ span.now) }
 {
-    turn_all(turn_all(key, signer), span)
+    tag_steps(tag_steps(key, signer), span)
 }
 
 impl KeyTag {

@@ -1,9 +1,9 @@
 // Why a signer is not entered into a trust list.
 ghost use Rattle.std.specs.Prelude.{◌≡◌, Some};
-ghost use Rattle.verifier.specs.TrustRefusals.{trust_told, trust_words};
+ghost use Rattle.verifier.specs.TrustRefusals.{trust_report_of, trust_words};
 
 use std::fmt;
-use wire::Told;
+use wire::Report;
 
 /// Why a signer is not entered into a trust list. None has a place or a detail.
 #[derive(Clone, Copy, PartialEq, Eq, Debug)]
@@ -16,23 +16,23 @@ pub enum TrustRefusal {
 
 impl TrustRefusal {
     /// The refusal's number, place and detail.
-    pub fn told(self) -> Told
-        ensures is { result ≡ trust_told self }
+    pub fn report(self) -> Report
+        ensures is { result ≡ trust_report_of self }
         // Two refusals with the same number, place and detail are one.
-        ensures apart { (other : TrustRefusal) → trust_told other ≡ result → other ≡ self }
+        ensures apart { (other : TrustRefusal) → trust_report_of other ≡ result → other ≡ self }
     {
         match self {
-            TrustRefusal::SignerLength => Told::new(27, 0, 0),
-            TrustRefusal::ListFull => Told::new(28, 0, 0),
+            TrustRefusal::SignerLength => Report::new(27, 0, 0),
+            TrustRefusal::ListFull => Report::new(28, 0, 0),
         }
     }
 }
 
-impl From<TrustRefusal> for Told {
-    ghost from_gives = { λ refusal t. t ≡ trust_told refusal };
+impl From<TrustRefusal> for Report {
+    ghost from_gives = { λ refusal t. t ≡ trust_report_of refusal };
 
-    fn from(refusal: TrustRefusal) -> Told {
-        refusal.told()
+    fn from(refusal: TrustRefusal) -> Report {
+        refusal.report()
     }
 }
 

@@ -1,6 +1,6 @@
 // The signers on a trust list.
 ghost use Rattle.std.specs.Prelude.{◌≡◌, []};
-ghost use Rattle.verifier.specs.Signers.{on_list, Enters};
+ghost use Rattle.verifier.specs.Signers.{is_on_list, Enters};
 
 use crate::compare::same_identity;
 use crate::few::Few;
@@ -35,7 +35,7 @@ impl Signers {
 
     // Whether a signer is on the list.
     pub(crate) fn contains(&self, signer: &[u8]) -> bool
-        ensures { result ≡ on_list self.now signer.now }
+        ensures { result ≡ is_on_list self.now signer.now }
     {
         let entries = self.entries.as_slice();
         entries

@@ -2,11 +2,11 @@
 use Rattle.std.specs.Prelude.{◌≡◌, ℕ, ◌≤◌, List, ◌++◌, length, take, drop, Ok, Err}
 use Rattle.wire.specs.declared.row.Row.{Row}
 use Rattle.wire.specs.Limits.{longest_message}
-use Rattle.wire.specs.Messages.{Message, encode, pieces}
+use Rattle.wire.specs.Messages.{Message, encode, all_payloads}
 use Rattle.wire.specs.Lawful.{Lawful}
-use Rattle.wire.specs.Rows.{rows, walked_of, Tile, MarksOff}
+use Rattle.wire.specs.Rows.{rows, walked_of, LieSideBySide, MarkOff}
 use Rattle.wire.specs.Answers.{Answer, map_ok}
-use Rattle.wire.specs.Walking.{Prefix, walking_prefix}
+use Rattle.wire.specs.Walking.{Prefix, prefix_answer}
 use Rattle.walk.specs.declared.prefix.WalkedPrefix.{WalkedPrefix}
 
 -- the bytes that count: no message is longer
@@ -20,37 +20,37 @@ abbrev pub walked_prefix_of : Prefix → WalkedPrefix
 walked_prefix_of p = walked_prefix p.message
 
 -- the rows of a message, and those of the table after them
-abbrev pub entered : Message → List Row → List Row
-entered m table = rows m ++ drop (length (rows m)) table
+abbrev pub table_with : Message → List Row → List Row
+table_with m table = rows m ++ drop (length (rows m)) table
 
 -- a table once a message was looked for: where there is none, its rows say nothing
-abbrev pub Entered : Answer Prefix → List Row → List Row → Type 0
-Entered (Ok p) before after = after ≡ entered p.message before
-Entered (Err f) before after = Unit {0}
+abbrev pub TableHoldsMessage : Answer Prefix → List Row → List Row → Type 0
+TableHoldsMessage (Ok p) before after = after ≡ table_with p.message before
+TableHoldsMessage (Err f) before after = Unit {0}
 
 -- m is the message that is told of the first bytes, up to `end`
-pub record ToldPrefix (m : Message) (bytes : List ℕ) (before : List Row) (p : WalkedPrefix)
+pub record IsPrefixIn (m : Message) (bytes : List ℕ) (before : List Row) (p : WalkedPrefix)
     (after : List Row) : Type 0 where
   pub lawful : Lawful m
   pub is : take p.end bytes ≡ encode m
   pub ends : p.end ≤ length bytes
   pub numbers : p ≡ walked_prefix m
-  pub rows : after ≡ entered m before
+  pub rows : after ≡ table_with m before
   -- the rows lie from the header's end to the message's, each where the one before ends
-  pub side_by_side : Tile p.walked.header p.end (take p.walked.count after)
+  pub side_by_side : LieSideBySide p.walked.header p.end (take p.walked.count after)
   -- and each marks off the bytes of its payload
-  pub marked_off : MarksOff (take p.end bytes) (take p.walked.count after) (pieces m)
+  pub marked_off : MarkOff (take p.end bytes) (take p.walked.count after) (all_payloads m)
 
 pub record WalksPrefix (bytes : List ℕ) (before : List Row) (answer : Answer WalkedPrefix)
     (after : List Row) : Type 0 where
   -- the answer
-  pub value : answer ≡ map_ok walked_prefix_of (walking_prefix (window bytes))
+  pub value : answer ≡ map_ok walked_prefix_of (prefix_answer (window bytes))
   -- bytes that begin with a lawful message's encoding are walked to it, whatever follows
   pub read_back : (m : Message) (rest : List ℕ) → Lawful m → encode m ++ rest ≡ bytes
-      → (answer ≡ Ok (walked_prefix m)) × (after ≡ entered m before)
+      → (answer ≡ Ok (walked_prefix m)) × (after ≡ table_with m before)
   -- and no other bytes are accepted
   pub only_lawful : (p : WalkedPrefix) → answer ≡ Ok p
-      → (m : Message) × ToldPrefix m bytes before p after
+      → (m : Message) × IsPrefixIn m bytes before p after
   -- they begin with one lawful message alone
   pub told_apart : (m other : Message) (rest others : List ℕ) → Lawful m → Lawful other
       → encode m ++ rest ≡ bytes → encode other ++ others ≡ bytes → m ≡ other

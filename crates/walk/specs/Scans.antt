@@ -7,7 +7,7 @@ use Rattle.wire.specs.Kinds.{code_of}
 use Rattle.wire.specs.Limits.{most_payloads}
 use Rattle.wire.specs.Rows.{rows_from, sizes, slot_of}
 use Rattle.wire.specs.Answers.{Answer, map_ok}
-use Rattle.wire.specs.Walking.{Chain, chain}
+use Rattle.wire.specs.Walking.{Chain, chain_answer}
 use Rattle.walk.specs.declared.chain.Links.{Links}
 use Rattle.walk.specs.declared.chain.Found.{Found}
 
@@ -17,7 +17,7 @@ pub record Scan : Type 0 where
   pub sign : ℕ
   pub end : ℕ
 
--- of a chain that begins at `at`, behind earlier rows
+-- of a chain that begins at `at`, after earlier rows
 unfoldable pub scan_of : List Row → ℕ → Chain → Scan
 scan_of earlier at c = record {
   rows = earlier ++ rows_from at (with_sign c.payloads c.sign_type c.signature);
@@ -25,16 +25,17 @@ scan_of earlier at c = record {
   end = at + sizes c.payloads + length (sign_body c.sign_type c.signature);
 }
 
-abbrev pub scanning : List ℕ → ℕ → Answer Scan
-scanning m at = map_ok (scan_of [] at) (chain most_payloads (slice_index m 2) 2 at (drop at m))
+abbrev pub scan_answer : List ℕ → ℕ → Answer Scan
+scan_answer m at = map_ok (scan_of [] at)
+    (chain_answer most_payloads (slice_index m 2) 2 at (drop at m))
 
 abbrev pub links_of : Scan → Links
 links_of s = record { count = length s.rows; sign = s.sign; end = s.end }
 
 -- the table holds the rows, if there are any to tell
-abbrev pub Holds : Answer Scan → List Row → Type 0
-Holds (Ok s) table = take (length s.rows) table ≡ s.rows
-Holds (Err f) table = Unit {0}
+abbrev pub TableHolds : Answer Scan → List Row → Type 0
+TableHolds (Ok s) table = take (length s.rows) table ≡ s.rows
+TableHolds (Err f) table = Unit {0}
 
 -- SIGN lies inside a message of n bytes
 pub record Inside (n : ℕ) (l : Links) : Type 0 where
@@ -43,7 +44,7 @@ pub record Inside (n : ℕ) (l : Links) : Type 0 where
   pub fits : l.end ≤ n
 
 -- what is found of a payload of this kind at `at`, which lies inside the message
-pub record Tells (m : List ℕ) (k : Kind) (at : ℕ) (f : Found) : Type 0 where
+pub record IsPayloadAt (m : List ℕ) (k : Kind) (at : ℕ) (f : Found) : Type 0 where
   pub code : f.code ≡ code_of k
   pub slot : f.slot ≡ slot_of k (slice_index m (at + 1))
   pub some : 2 ≤ f.length

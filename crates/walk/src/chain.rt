@@ -1,13 +1,13 @@
 // The payloads of a message, one after the other, up to SIGN.
 ghost use Rattle.std.specs.Prelude.{◌≡◌, ◌+◌, ◌≤◌, length, drop, IfOk};
 ghost use Rattle.wire.specs.Answers.{map_ok};
-ghost use Rattle.wire.specs.Kinds.{lead};
+ghost use Rattle.wire.specs.Kinds.{next_byte_length};
 ghost use Rattle.wire.specs.Limits.{fixed_header, longest_message};
 ghost use Rattle.wire.specs.Numbered.{slot_number};
 ghost use Rattle.wire.specs.Rows.{slot_of};
 ghost use Rattle.wire.specs.Extents.{body_at};
-ghost use Rattle.wire.specs.Walking.{kind_at};
-ghost use Rattle.walk.specs.Scans.{scanning, links_of, Tells, Holds, Inside};
+ghost use Rattle.wire.specs.Walking.{kind_answer};
+ghost use Rattle.walk.specs.Scans.{scan_answer, links_of, IsPayloadAt, TableHolds, Inside};
 
 use layout::body_length;
 use wire::{Kind, MOST_PAYLOADS, Refusal, Row, Slot};
@@ -21,7 +21,7 @@ pub(crate) struct Links {
 }
 
 fn kind_of(code: u8, naming: usize) -> Result<Kind, Refusal>
-    ensures { result ≡ kind_at code naming }
+    ensures { result ≡ kind_answer code naming }
 {
     Kind::of(code).ok_or(Refusal::UnknownCode(naming))
 }
@@ -49,7 +49,9 @@ fn slot(kind: Kind, value: u8) -> Slot
 // The length of the payload at `at`, its next-payload byte included.
 fn payload(message: &[u8], kind: Kind, at: usize) -> Result<usize, Refusal>
     requires { at ≤ length message.now }
-    ensures answer { result ≡ map_ok (λ p. lead kind + length p) (body_at kind at (drop (lead kind) (drop at message.now))) }
+    ensures answer { result
+        ≡ map_ok (λ p. next_byte_length kind + length p)
+        (body_at kind at (drop (next_byte_length kind) (drop at message.now))) }
     ensures within { IfOk result (λ n. (2 ≤ n) × (at + n ≤ length message.now)) }
 {
     // SIGN on a way of its own, which is faster than one for all with 0 or 1 byte before the body.
@@ -71,8 +73,10 @@ pub(crate) struct Found {
 // The payload at `at`.
 fn find(message: &[u8], kind: Kind, at: usize) -> Result<Found, Refusal>
     requires { at ≤ length message.now }
-    ensures answer { map_ok (λ f. f.length) result ≡ map_ok (λ p. lead kind + length p) (body_at kind at (drop (lead kind) (drop at message.now))) }
-    ensures found { IfOk result (Tells message.now kind at) }
+    ensures answer { map_ok (λ f. f.length) result
+        ≡ map_ok (λ p. next_byte_length kind + length p)
+        (body_at kind at (drop (next_byte_length kind) (drop at message.now))) }
+    ensures found { IfOk result (IsPayloadAt message.now kind at) }
 {
     let length = payload(message, kind, at)?;
     Ok(Found {
@@ -82,11 +86,14 @@ fn find(message: &[u8], kind: Kind, at: usize) -> Result<Found, Refusal>
     })
 }
 
-// The same by an arm for each kind: in each the compiler knows the kind, so that one jump is left for length, rule, code and slot.
+// The same by an arm for each kind: in each the compiler knows the kind, so that one jump is left
+// for length, rule, code and slot.
 fn find_by_kind(message: &[u8], kind: Kind, at: usize) -> Result<Found, Refusal>
     requires { at ≤ length message.now }
-    ensures answer { map_ok (λ f. f.length) result ≡ map_ok (λ p. lead kind + length p) (body_at kind at (drop (lead kind) (drop at message.now))) }
-    ensures found { IfOk result (Tells message.now kind at) }
+    ensures answer { map_ok (λ f. f.length) result
+        ≡ map_ok (λ p. next_byte_length kind + length p)
+        (body_at kind at (drop (next_byte_length kind) (drop at message.now))) }
+    ensures found { IfOk result (IsPayloadAt message.now kind at) }
 {
     match kind {
         Kind::T => find(message, Kind::T, at),
@@ -107,8 +114,8 @@ pub(crate) fn chain(
 ) -> Result<Links, Refusal>
     requires { (fixed_header ≤ from) × ((from ≤ length message.now)
         × (length message.now ≤ longest_message)) }
-    ensures answer { result ≡ map_ok links_of (scanning message.now from) }
-    ensures rows { Holds (scanning message.now from) table.new }
+    ensures answer { result ≡ map_ok links_of (scan_answer message.now from) }
+    ensures rows { TableHolds (scan_answer message.now from) table.new }
     // The rows after them are as they were.
     ensures others { IfOk result (λ l. drop l.count table.new ≡ drop l.count table.old) }
     ensures within { IfOk result (Inside (length message.now)) }

@@ -1,5 +1,5 @@
 // The time stamp of a T payload.
-ghost use Rattle.walk.specs.Times.{Times};
+ghost use Rattle.walk.specs.Times.{ReadsTime};
 
 use wire::Refusal;
 
@@ -8,7 +8,7 @@ const LENGTH: usize = 10;
 
 // Seconds since 0h on 1 January 1900, of a T payload as lookup hands it out.
 pub fn time(payload: &[u8]) -> Result<u64, Refusal>
-    ensures { Times payload.now result }
+    ensures { ReadsTime payload.now result }
 {
     if payload.len() < LENGTH {
         return Err(Refusal::PayloadCut(0));

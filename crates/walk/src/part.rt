@@ -2,7 +2,7 @@
 ghost use Rattle.std.specs.Prelude.{◌≡◌};
 ghost use Rattle.std.specs.Option.{option_map};
 ghost use Rattle.wire.specs.Rows.{first_in_slot};
-ghost use Rattle.walk.specs.Parts.{HandsOut};
+ghost use Rattle.walk.specs.Parts.{LooksUp};
 
 use wire::{Refusal, Row, Slot};
 
@@ -15,7 +15,7 @@ pub struct Part<'a> {
 
 // The part of the message that a row marks off.
 pub fn lookup<'a>(message: &'a [u8], row: &Row) -> Result<Part<'a>, Refusal>
-    ensures { HandsOut message.now row.now result }
+    ensures { LooksUp message.now row.now result }
 {
     let range = row.range();
     let place = range.start;

@@ -2,8 +2,8 @@
 ghost use Rattle.std.specs.Prelude.{◌≡◌, ◌≤◌, length};
 ghost use Rattle.wire.specs.Answers.{map_ok};
 ghost use Rattle.wire.specs.Limits.{longest_message};
-ghost use Rattle.wire.specs.Walking.{walking_prefix};
-ghost use Rattle.walk.specs.Prefixes.{window, walked_prefix_of, Entered, WalksPrefix};
+ghost use Rattle.wire.specs.Walking.{prefix_answer};
+ghost use Rattle.walk.specs.Prefixes.{window, walked_prefix_of, TableHoldsMessage, WalksPrefix};
 
 use crate::chain::chain;
 use crate::header::header;
@@ -22,8 +22,8 @@ pub(crate) fn prefix(
     table: &mut [Row; MOST_PAYLOADS],
 ) -> Result<WalkedPrefix, Refusal>
     requires { length window.now ≤ longest_message }
-    ensures answer { result ≡ map_ok walked_prefix_of (walking_prefix window.now) }
-    ensures rows { Entered (walking_prefix window.now) table.old table.new }
+    ensures answer { result ≡ map_ok walked_prefix_of (prefix_answer window.now) }
+    ensures rows { TableHoldsMessage (prefix_answer window.now) table.old table.new }
 {
     let header = header(window)?;
     let links = chain(window, header, table)?;

@@ -20,7 +20,7 @@ pub(crate) fn signed(heap: Global, code: u8, body: &[u8]) -> Result<Vec<u8>, All
     Ok(bytes)
 }
 
-// SIGN behind so many empty RANDs.
+// SIGN after so many empty RANDs.
 pub(crate) fn many(heap: Global, rands: usize) -> Result<Vec<u8>, AllocError> {
     let mut bytes = header(heap, if rands == 0 { 4 } else { 11 })?;
     for left in (0..rands).rev() {

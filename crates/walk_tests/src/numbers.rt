@@ -1,6 +1,6 @@
 // The numbers of kinds, slots and fields, and refusals as they are told and in words.
 use std::test::Fail;
-use wire::{Field, Kind, Refusal, Row, Slot, Told, UnknownNumber, Walked};
+use wire::{Field, Kind, Refusal, Report, Row, Slot, UnknownNumber, Walked};
 
 const KINDS: [(u8, Kind); 7] = [
     (4, Kind::Sign),
@@ -157,8 +157,8 @@ const TOLD: [(Refusal, &str); 5] = [
 #[test]
 fn refusals_as_they_are_told(rt: HostRuntime) -> Result<(), Fail> {
     for (refusal, text) in TOLD {
-        let told = Told::from(refusal);
-        assert_eq!(rt; told, refusal.told());
+        let told = Report::from(refusal);
+        assert_eq!(rt; told, refusal.report());
         assert_eq!(rt; format!(in rt.alloc(); "{told}")?.as_str(), text);
     }
     Ok(())

@@ -57,13 +57,14 @@ fn the_window(rt: HostRuntime) -> Result<(), Fail> {
 #[test]
 fn no_message_at_the_front(rt: HostRuntime) -> Result<(), Fail> {
     let bytes = signed(rt.alloc(), 11, &RAND)?;
-    let mut table = [Row::BLANK; 24];
-    assert_eq!(rt;
-        walk_prefix(&bytes[..15], &mut table),
-        Err(Refusal::PayloadCut(13))
-    );
-    assert_eq!(rt; walk_prefix(&bytes[1..], &mut table), Err(Refusal::Version));
-    assert_eq!(rt; walk_prefix(&[], &mut table), Err(Refusal::TooShort(0)));
+    for (part, refusal) in [
+        (bytes_at(&bytes, 0, 15), Refusal::PayloadCut(13)),
+        (bytes_from(&bytes, 1), Refusal::Version),
+        (bytes_from(&bytes, 16), Refusal::TooShort(0)),
+    ] {
+        let mut table = [Row::BLANK; 24];
+        assert_eq!(rt; walk_prefix(part, &mut table), Err(refusal));
+    }
     Ok(())
 }
 
@@ -84,7 +85,7 @@ fn first_rows(rt: HostRuntime) -> Result<(), Fail> {
     let bytes = many(rt.alloc(), 3)?;
     let mut table = [Row::BLANK; 24];
     let walked = walk_table(&bytes, &mut table)?;
-    let rows = &table[..walked.count];
+    let rows = table.get(..walked.count).ok_or("more than 24 rows")?;
     for (slot, start) in [
         (Slot::Rand, Some(10)),
         (Slot::Sign, Some(16)),

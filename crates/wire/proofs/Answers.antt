@@ -24,7 +24,7 @@ pub ok_or_ok : {A E : Type 0} (o : Option A) (f : E) (a : A) → ok_or o f ≡ O
 ok_or_ok {E = E} (Some x) f a e = let q : x ≡ a = same_ok {E = E} x a e in cc
 ok_or_ok None f a e = absurd (never_ok f a e)
 
--- what is behind an answer that was mapped
+-- what is after an answer that was mapped
 pub found : {A B E : Type 0} (r : Result A E) (g : A → B) (b : B) → Ok b ≡ map_ok g r → (a : A) × (r ≡ Ok a) × (g a ≡ b)
 found {E = E} (Ok a) g b e = (a, refl, same_ok {E = E} (g a) b (sym e))
 found (Err f) g b e = absurd (never_ok f b (sym e))

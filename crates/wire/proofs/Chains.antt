@@ -7,14 +7,14 @@ use Rattle.wire.specs.declared.kind.Kind.{Kind}
 use Rattle.wire.specs.declared.kind.Kind.TheVariants.{Sign}
 use Rattle.wire.specs.declared.refusal.Refusal.TheVariants.{UnknownCode, ExtraPayload, PayloadCut, PayloadRule}
 use Rattle.wire.specs.Octets.{Octets, value_at}
-use Rattle.wire.specs.Kinds.{code_of, kind_of, is_sign, lead}
-use Rattle.wire.specs.Messages.{Payload, first, payloads_bytes, sign_body}
+use Rattle.wire.specs.Kinds.{code_of, kind_of, is_sign, next_byte_length}
+use Rattle.wire.specs.Messages.{Payload, first_code, payloads_bytes, sign_body}
 use Rattle.wire.specs.Layouts.{Body}
 use Rattle.wire.specs.Layouts.Body.{sign}
 use Rattle.wire.specs.Lawful.{LawfulPayload, LawfulSign}
 use Rattle.wire.specs.Answers.{and_then}
 use Rattle.wire.specs.Extents.{Whole, extent, inside, body_at}
-use Rattle.wire.specs.Walking.{Chain, chain, kind_at, signed, behind}
+use Rattle.wire.specs.Walking.{Chain, chain_answer, kind_answer, sign_chain, chain_after}
 use Rattle.wire.proofs.Answers.{and_then_ok, ok_or_ok, same_ok, never_ok}
 use Rattle.wire.proofs.Codes.{kind_code, code_kind, is_sign_lem}
 use Rattle.wire.proofs.Numbers.{octets_front, value_fits}
@@ -30,15 +30,15 @@ body_back k at bs p e = part_back (extent k) (inside k) (PayloadCut at) (Payload
 
 -- one more payload in front of a chain
 next_there : (k : Kind) (left naming at next : ℕ) (body rest : List ℕ) (c : Chain) → is_sign k ≡ false → Body k body
-    → chain left next at (at + (1 + length body)) rest ≡ Ok c → chain (suc left) (code_of k) naming at (next ∷ (body ++ rest)) ≡ Ok (behind k body c)
-unfolding chain
+    → chain_answer left next at (at + (1 + length body)) rest ≡ Ok c → chain_answer (suc left) (code_of k) naming at (next ∷ (body ++ rest)) ≡ Ok (chain_after k body c)
+unfolding chain_answer
 next_there k left naming at next body rest c other b e =
     let d : drop (1 + length body) (next ∷ (body ++ rest)) ≡ rest = rw one-add (drop_at body rest (length body) refl) in
     rw (kind_code k, other, body_there k at body rest b, d, e)
 
 last_there : (left naming at type : ℕ) (signature after : List ℕ) → LawfulSign type signature
-    → chain (suc left) (code_of Sign) naming at (sign_body type signature ++ after) ≡ Ok (record { payloads = []; sign_type = type; signature = signature; after = after })
-unfolding chain
+    → chain_answer (suc left) (code_of Sign) naming at (sign_body type signature ++ after) ≡ Ok (record { payloads = []; sign_type = type; signature = signature; after = after })
+unfolding chain_answer
 last_there left naming at type signature after l =
     let b = body_there Sign at (sign_body type signature) after (sign type signature l.least l.most) in
     let n : value_at 2 0 (sign_body type signature) / 4096 ≡ type = omega (arith, l.most) in
@@ -47,7 +47,7 @@ last_there left naming at type signature after l =
     rw (b, d, n)
 
 pub chain_there : (ps : List Payload) (left naming at type : ℕ) (signature after : List ℕ) → AllByRecursion LawfulPayload ps → LawfulSign type signature → length ps < left
-    → chain left (first (code_of Sign) ps) naming at (payloads_bytes (code_of Sign) ps ++ (sign_body type signature ++ after))
+    → chain_answer left (first_code (code_of Sign) ps) naming at (payloads_bytes (code_of Sign) ps ++ (sign_body type signature ++ after))
     ≡ Ok (record { payloads = ps; sign_type = type; signature = signature; after = after })
 chain_there ps zero naming at type signature after l s h = absurd (omega arith)
 chain_there [] (suc left) naming at type signature after l s h = last_there left naming at type signature after s
@@ -55,18 +55,18 @@ chain_there (p ∷ ps) (suc left) naming at type signature after l s h =
     let tail : List ℕ = sign_body type signature ++ after in
     let ih = chain_there ps left at (at + (1 + length p.body)) type signature after l.1 s (omega arith) in
     rw (append_assoc p.body (payloads_bytes 4 ps) tail)
-    (next_there p.kind left naming at (first 4 ps) p.body (payloads_bytes 4 ps ++ tail) _ l.0.other l.0.body ih)
+    (next_there p.kind left naming at (first_code 4 ps) p.body (payloads_bytes 4 ps ++ tail) _ l.0.other l.0.body ih)
 
 -- what a chain that is found says
 pub record Back (left code : ℕ) (bs : List ℕ) (c : Chain) : Type 0 where
-  pub named : code ≡ first (code_of Sign) c.payloads
+  pub named : code ≡ first_code (code_of Sign) c.payloads
   pub is : payloads_bytes (code_of Sign) c.payloads ++ (sign_body c.sign_type c.signature ++ c.after) ≡ bs
   pub payloads : AllByRecursion LawfulPayload c.payloads
   pub count : length c.payloads < left
   pub sign : LawfulSign c.sign_type c.signature
 
-module _ (left : ℕ) (ih : (code naming at : ℕ) (bs : List ℕ) (c : Chain) → Octets bs → chain left code naming at bs ≡ Ok c → Back left code bs c) where
-  last_back : (at : ℕ) (bs body : List ℕ) → Octets bs → body_at Sign at bs ≡ Ok body → Back (suc left) (code_of Sign) bs (signed body (drop (0 + length body) bs))
+module _ (left : ℕ) (ih : (code naming at : ℕ) (bs : List ℕ) (c : Chain) → Octets bs → chain_answer left code naming at bs ≡ Ok c → Back left code bs c) where
+  last_back : (at : ℕ) (bs body : List ℕ) → Octets bs → body_at Sign at bs ≡ Ok body → Back (suc left) (code_of Sign) bs (sign_chain body (drop (0 + length body) bs))
   last_back at bs body y e =
       let w = body_back Sign at bs body e in
       let d : drop (0 + length body) bs ≡ drop (length body) bs = rw zero-add in
@@ -88,7 +88,7 @@ module _ (left : ℕ) (ih : (code naming at : ℕ) (bs : List ℕ) (c : Chain) �
       }
 
   next_back : (k : Kind) (at : ℕ) (bs body : List ℕ) (c : Chain) → Octets bs → is_sign k ≡ false → body_at k at (drop 1 bs) ≡ Ok body
-      → chain left (get_or bs 0 0) at (at + (1 + length body)) (drop (1 + length body) bs) ≡ Ok c → Back (suc left) (code_of k) bs (behind k body c)
+      → chain_answer left (get_or bs 0 0) at (at + (1 + length body)) (drop (1 + length body) bs) ≡ Ok c → Back (suc left) (code_of k) bs (chain_after k body c)
   next_back k at [] body c y other e f =
       let w = body_back k at [] body e in
       absurd (omega (arith, extent_some k body, w.0.ends, ap length w.1, length-append body (drop (length body) [])))
@@ -100,32 +100,32 @@ module _ (left : ℕ) (ih : (code naming at : ℕ) (bs : List ℕ) (c : Chain) �
       let tail : List ℕ = sign_body c.sign_type c.signature ++ c.after in
       record {
         named = refl;
-        is = ap (λ x. first 4 c.payloads ∷ x) (append_assoc body (payloads_bytes 4 c.payloads) tail) ∙ rw (← h.named, h.is, d, ← w.1);
+        is = ap (λ x. first_code 4 c.payloads ∷ x) (append_assoc body (payloads_bytes 4 c.payloads) tail) ∙ rw (← h.named, h.is, d, ← w.1);
         payloads = (record { other = other; body = body_drawn k body yb w.0; octets = yb }, h.payloads);
         count = omega (arith, h.count);
         sign = h.sign;
       }
 
   step_back : (k : Kind) (at : ℕ) (bs body : List ℕ) (c : Chain) → Octets bs → (t : Bool) → is_sign k ≡ t → body_at k at (drop (cond t 0 1) bs) ≡ Ok body
-      → cond t (Ok (signed body (drop (cond t 0 1 + length body) bs)))
-      (and_then (chain left (get_or bs 0 0) at (at + (cond t 0 1 + length body)) (drop (cond t 0 1 + length body) bs)) (λ c. Ok (behind k body c))) ≡ Ok c
+      → cond t (Ok (sign_chain body (drop (cond t 0 1 + length body) bs)))
+      (and_then (chain_answer left (get_or bs 0 0) at (at + (cond t 0 1 + length body)) (drop (cond t 0 1 + length body) bs)) (λ c. Ok (chain_after k body c))) ≡ Ok c
       → Back (suc left) (code_of k) bs c
   step_back k at bs body c y true s e f =
       let q : k ≡ Sign = is_sign_lem k s in
       let b : body_at Sign at bs ≡ Ok body = subst (λ x. body_at x at bs ≡ Ok body) q e in
       subst (λ x. Back (suc left) (code_of x) bs c) (sym q)
-      (subst (Back (suc left) (code_of Sign) bs) (same_ok (signed body (drop (0 + length body) bs)) c f) (last_back at bs body y b))
+      (subst (Back (suc left) (code_of Sign) bs) (same_ok (sign_chain body (drop (0 + length body) bs)) c f) (last_back at bs body y b))
   step_back k at bs body c y false s e f =
-      let a = and_then_ok (chain left (get_or bs 0 0) at (at + (1 + length body)) (drop (1 + length body) bs)) _ c f in
-      subst (Back (suc left) (code_of k) bs) (same_ok (behind k body a.0) c a.2) (next_back k at bs body a.0 y s e a.1)
+      let a = and_then_ok (chain_answer left (get_or bs 0 0) at (at + (1 + length body)) (drop (1 + length body) bs)) _ c f in
+      subst (Back (suc left) (code_of k) bs) (same_ok (chain_after k body a.0) c a.2) (next_back k at bs body a.0 y s e a.1)
 
-pub chain_back : (left code naming at : ℕ) (bs : List ℕ) (c : Chain) → Octets bs → chain left code naming at bs ≡ Ok c → Back left code bs c
-unfolding chain
+pub chain_back : (left code naming at : ℕ) (bs : List ℕ) (c : Chain) → Octets bs → chain_answer left code naming at bs ≡ Ok c → Back left code bs c
+unfolding chain_answer
 chain_back zero code naming at bs c y e =
-    let a = and_then_ok (kind_at code naming) _ c e in absurd (never_ok (ExtraPayload at) c a.2)
+    let a = and_then_ok (kind_answer code naming) _ c e in absurd (never_ok (ExtraPayload at) c a.2)
 chain_back (suc left) code naming at bs c y e =
-    let a = and_then_ok (kind_at code naming) _ c e in
+    let a = and_then_ok (kind_answer code naming) _ c e in
     let k = a.0 in
     let q : code_of k ≡ code = code_kind code k (ok_or_ok (kind_of code) (UnknownCode naming) k a.1) in
-    let b = and_then_ok (body_at k at (drop (lead k) bs)) _ c a.2 in
+    let b = and_then_ok (body_at k at (drop (next_byte_length k) bs)) _ c a.2 in
     subst (λ x. Back (suc left) x bs c) q (step_back left (chain_back left) k at bs b.0 c y (is_sign k) refl b.1 b.2)

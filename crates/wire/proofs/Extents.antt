@@ -4,7 +4,7 @@ use Rattle.std.proofs.lemmas.List.{get_or_append_left}
 use Rattle.std.proofs.lemmas.Bool.{cond_both}
 use Rattle.wire.specs.declared.kind.Kind.{Kind}
 use Rattle.wire.specs.declared.kind.Kind.TheVariants.{T, Rand, Idr, Sp, Sakke, Ext, Sign}
-use Rattle.wire.specs.Kinds.{is_sign, lead}
+use Rattle.wire.specs.Kinds.{is_sign, next_byte_length}
 use Rattle.wire.specs.Octets.{value_at}
 use Rattle.wire.specs.Extents.{extent, policy_count, data_length, session_extent}
 use Rattle.wire.proofs.Numbers.{value_same}
@@ -23,7 +23,7 @@ extent_local Ext = local (extent Ext) 3 (λ p. omega arith) (λ p r h. ap (λ n.
 extent_local Sign = local (extent Sign) 2 (λ p. omega arith) (λ p r h. ap (λ n. 2 + n % 4096) (value_same 2 0 p r h))
 
 -- no payload is shorter than two bytes, and no body is empty
-pub payload_some : (k : Kind) (p : List ℕ) → 2 ≤ lead k + extent k p
+pub payload_some : (k : Kind) (p : List ℕ) → 2 ≤ next_byte_length k + extent k p
 payload_some T p = omega arith
 payload_some Rand p = omega arith
 payload_some Idr p = omega arith
@@ -34,7 +34,7 @@ payload_some Sign p = omega arith
 
 pub extent_some : (k : Kind) (p : List ℕ) → 1 ≤ extent k p
 extent_some k p =
-    let most : lead k ≤ 1 = cond_both (is_sign k) 0 1 (λ n. n ≤ 1) (λ e. omega arith) (λ e. omega arith) in
+    let most : next_byte_length k ≤ 1 = cond_both (is_sign k) 0 1 (λ n. n ≤ 1) (λ e. omega arith) (λ e. omega arith) in
     omega (arith, payload_some k p)
 
 policies_same : (p r : List ℕ) → 2 < length p → policy_count (p ++ r) ≡ policy_count p

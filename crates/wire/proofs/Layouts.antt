@@ -4,9 +4,9 @@ use Rattle.std.proofs.ByRecursion.{All-drop}
 use Rattle.std.proofs.lemmas.Bool.{false≢true, eqb-true, eq-eqb, ltb-true, lt-ltb, cases_Bool}
 use Rattle.wire.specs.declared.kind.Kind.{Kind}
 use Rattle.wire.specs.declared.kind.Kind.TheVariants.{T, Rand, Idr, Sp, Sakke, Ext, Sign}
-use Rattle.wire.specs.Octets.{Octets, value_at, in_bytes, sized}
+use Rattle.wire.specs.Octets.{Octets, value_at, in_bytes, with_length}
 use Rattle.wire.specs.Messages.{sign_body}
-use Rattle.wire.specs.Layouts.{Items, Body, sakke_body, wraps}
+use Rattle.wire.specs.Layouts.{Items, Body, sakke_body, wraps_sakke}
 use Rattle.wire.specs.Layouts.Items.{none, item}
 use Rattle.wire.specs.Layouts.Body.{t, rand, idr, sp, sakke, ext, wrapping, sign}
 use Rattle.wire.specs.Extents.{Whole, extent, inside, items, one_sakke}
@@ -21,7 +21,7 @@ items_whole : {bs : List ℕ} → Items bs → items 0 bs ≡ true
 items_whole none = refl
 items_whole (item type value rest i) = items_past value rest ∙ items_whole i
 
--- a value of n bytes, and whole items behind it
+-- a value of n bytes, and whole items after it
 record Behind (n : ℕ) (bs : List ℕ) : Type 0 where
   value : List ℕ
   rest : List ℕ
@@ -93,12 +93,12 @@ one_sakke_lem (n ∷ p) y e =
 draw_ext : (p : List ℕ) → Draws Ext p
 draw_ext p y w =
     let d : List ℕ = drop 3 p in
-    let is : p ≡ get_or p 0 0 ∷ sized d = sized_from 1 p y w.ends in
-    elim (cases_Bool (wraps (get_or p 0 0))) [
+    let is : p ≡ get_or p 0 0 ∷ with_length d = sized_from 1 p y w.ends in
+    elim (cases_Bool (wraps_sakke (get_or p 0 0))) [
       | inl s ↦
           let o : one_sakke d ≡ true = rw s at w.keeps in
           let q = one_sakke_lem d (All-drop _ 3 p y) o in
-          subst (Body Ext) (sym (is ∙ ap (λ x. get_or p 0 0 ∷ sized x) q))
+          subst (Body Ext) (sym (is ∙ ap (λ x. get_or p 0 0 ∷ with_length x) q))
           (wrapping (get_or p 0 0) (get_or d 0 0) (get_or d 1 0) (get_or d 2 0) (drop 5 d) s)
       | inr s ↦ subst (Body Ext) (sym is) (ext (get_or p 0 0) d s)
     ]

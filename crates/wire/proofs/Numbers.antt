@@ -7,7 +7,7 @@ use lib.Arith.{digits_lt, digits_div, digits_mod}
 use native.Mathlib.Nat.{pow-succ'}
 use mir.Syntax.{w8}
 use mir.Val.{Fits}
-use Rattle.wire.specs.Octets.{Octets, in_bytes, value_at, sized}
+use Rattle.wire.specs.Octets.{Octets, in_bytes, value_at, with_length}
 
 -- the bytes of a slice, as its type says of each place
 pub octets : (bs : List ℕ) → ((k : ℕ) → Fits w8 (get_or bs k 0)) → Octets bs
@@ -48,8 +48,8 @@ value_in_bytes (suc w) at bs y =
     let v = value_fits w (at + 1) bs y in
     rw (digits_div (get_or bs at 0) v, digits_mod (get_or bs at 0) v, value_in_bytes w (at + 1) bs y)
 
--- data behind its length, where b bytes stand before the length
-pub sized_from : (b : ℕ) (p : List ℕ) → Octets p → b + 2 + value_at 2 b p ≡ length p → p ≡ firsts b 0 p ++ sized (drop (b + 2) p)
+-- data after its length, where b bytes stand before the length
+pub sized_from : (b : ℕ) (p : List ℕ) → Octets p → b + 2 + value_at 2 b p ≡ length p → p ≡ firsts b 0 p ++ with_length (drop (b + 2) p)
 sized_from b p y e =
     let n : value_at 2 b p ≡ length (drop (b + 2) p) = simp length-drop (omega arith) in
     let f : in_bytes 2 (length (drop (b + 2) p)) ≡ firsts 2 b p = ap (in_bytes 2) (sym n) ∙ value_in_bytes 2 b p y in

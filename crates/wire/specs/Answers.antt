@@ -1,9 +1,9 @@
--- Answers that may be refusals, and tests in a row: the first that fails is told. What refuses is any enum: each crate that refuses
--- for reasons of its own has one.
+-- Answers that may be refusals, and tests in a row: the first that fails is told. What refuses is
+-- any enum: each crate that refuses for reasons of its own has one.
 use Rattle.std.specs.Prelude.{Bool, true, false, Ok, Err, Result}
 use Rattle.wire.specs.declared.refusal.Refusal.{Refusal}
-use Rattle.wire.specs.declared.refusal.Told.{Told}
-use Rattle.wire.specs.Refusals.{told}
+use Rattle.wire.specs.declared.refusal.Report.{Report}
+use Rattle.wire.specs.Refusals.{report_of}
 
 abbrev pub Answer : Type 0 → Type 0
 Answer A = Result A Refusal
@@ -27,5 +27,5 @@ map_err g (Ok a) = Ok a
 map_err g (Err f) = Err (g f)
 
 -- an answer as it is told: a refusal by its number, place and detail
-abbrev pub reported : {A : Type 0} → Answer A → Result A Told
-reported answer = map_err told answer
+abbrev pub outcome_of : {A : Type 0} → Answer A → Result A Report
+outcome_of answer = map_err report_of answer

@@ -32,5 +32,5 @@ is_sign Ext = false
 is_sign Sign = true
 
 -- the next-payload byte, which each payload but SIGN begins with
-abbrev pub lead : Kind → ℕ
-lead k = cond (is_sign k) 0 1
+abbrev pub next_byte_length : Kind → ℕ
+next_byte_length k = cond (is_sign k) 0 1

@@ -4,7 +4,7 @@ use Rattle.std.specs.List.{AllByRecursion}
 use Rattle.wire.specs.Octets.{Octets}
 use Rattle.wire.specs.Limits.{most_payloads, longest_message, longest_signature}
 use Rattle.wire.specs.Kinds.{is_sign}
-use Rattle.wire.specs.Messages.{Header, Payload, Message, encode, pieces}
+use Rattle.wire.specs.Messages.{Header, Payload, Message, encode, all_payloads}
 use Rattle.wire.specs.Layouts.{Body, Map}
 
 pub record LawfulHeader (h : Header) : Type 0 where
@@ -28,5 +28,5 @@ pub record Lawful (m : Message) : Type 0 where
   pub header : LawfulHeader m.header
   pub payloads : AllByRecursion LawfulPayload m.payloads
   pub sign : LawfulSign m.sign_type m.signature
-  pub count : length (pieces m) ≤ most_payloads
+  pub count : length (all_payloads m) ≤ most_payloads
   pub size : length (encode m) ≤ longest_message

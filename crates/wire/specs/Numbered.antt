@@ -8,7 +8,8 @@ use Rattle.wire.specs.declared.field.Field.TheVariants as field
 
 -- the one that has the number, or the number back where none has it
 abbrev pub Names : {A : Type 0} → (A → ℕ) → ℕ → Result A UnknownNumber → Type 0
-Names number n r = MatchResult r (λ a. number a ≡ n) (λ e. (e.number ≡ n) × ((a : _) → number a ≡ n → ⊥))
+Names number n r = MatchResult r (λ a. number a ≡ n) (λ e. (e.number ≡ n)
+    × ((a : _) → number a ≡ n → ⊥))
 
 abbrev pub slot_number : Slot → ℕ
 slot_number slot.T = 1

@@ -15,6 +15,6 @@ abbrev pub value_at : ℕ → ℕ → List ℕ → ℕ
 value_at zero at bs = 0
 value_at (suc w) at bs = slice_index bs at * 256 ^ w + value_at w (at + 1) bs
 
--- data behind its length in two bytes
-abbrev pub sized : List ℕ → List ℕ
-sized content = in_bytes 2 (length content) ++ content
+-- data after its length in two bytes
+abbrev pub with_length : List ℕ → List ℕ
+with_length content = in_bytes 2 (length content) ++ content

@@ -2,21 +2,21 @@
 use Rattle.std.specs.Prelude.{ℕ, cond, List, [], ◌∷◌, ◌++◌, Some, None, Option, ◌==◌, codes, decimal}
 use Rattle.wire.specs.declared.refusal.Refusal.{Refusal}
 use Rattle.wire.specs.declared.refusal.Refusal.TheVariants as refusal
-use Rattle.wire.specs.declared.refusal.Told.{Told}
+use Rattle.wire.specs.declared.refusal.Report.{Report}
 use Rattle.wire.specs.declared.row.Row.{Row}
 use Rattle.wire.specs.declared.row.Walked.{Walked}
 use Rattle.wire.specs.declared.slot.Slot.{Slot}
 use Rattle.wire.specs.declared.slot.Slot.TheVariants as slot
 use Rattle.wire.specs.declared.field.Field.{Field}
 use Rattle.wire.specs.declared.field.Field.TheVariants as field
-use Rattle.wire.specs.Refusals.{told}
+use Rattle.wire.specs.Refusals.{report_of}
 
 -- three numbers in decimal, a space between
 abbrev pub three_numbers : ℕ → ℕ → ℕ → List ℕ
 three_numbers a b c = decimal a ++ (32 ∷ (decimal b ++ (32 ∷ decimal c)))
 
-abbrev pub told_text : Told → List ℕ
-told_text t = three_numbers t.number t.place t.detail
+abbrev pub report_text : Report → List ℕ
+report_text t = three_numbers t.number t.place t.detail
 
 abbrev pub row_text : Row → List ℕ
 row_text r = decimal r.code ++ (32 ∷ three_numbers r.slot r.start r.length)
@@ -24,8 +24,8 @@ row_text r = decimal r.code ++ (32 ∷ three_numbers r.slot r.start r.length)
 abbrev pub walked_text : Walked → List ℕ
 walked_text w = three_numbers w.count w.header w.span
 
-abbrev pub unknown_text : ℕ → List ℕ
-unknown_text n = codes "nothing has the number " ++ decimal n
+abbrev pub unknown_number_text : ℕ → List ℕ
+unknown_number_text n = codes "nothing has the number " ++ decimal n
 
 abbrev pub slot_words : Slot → List ℕ
 slot_words slot.T = codes "T"
@@ -131,7 +131,7 @@ field_text n = codes ": " ++ field_or_unknown (field_named n)
 abbrev pub place_text : ℕ → List ℕ
 place_text n = cond (n == 0) [] (codes ", byte " ++ decimal n)
 
--- what comes behind the sentence: a field or a slot, and the byte. Of a length no byte is told
+-- what comes after the sentence: a field or a slot, and the byte. Of a length no byte is told
 abbrev pub detail_text : Refusal → List ℕ
 detail_text (refusal.FieldNotTaken byte field) = field_text field ++ place_text byte
 detail_text (refusal.RankFalls start slot) = slot_text slot ++ place_text start
@@ -139,7 +139,7 @@ detail_text (refusal.AboveMost start slot) = slot_text slot ++ place_text start
 detail_text (refusal.BelowLeast length slot) = slot_text slot
 detail_text refusal.TooLong = []
 detail_text (refusal.TooShort length) = []
-detail_text other = place_text (told other).place
+detail_text other = place_text (report_of other).place
 
 abbrev pub refusal_text : Refusal → List ℕ
 refusal_text f = refusal_words f ++ detail_text f

@@ -17,7 +17,8 @@ pub enum Kind {
 }
 
 impl Kind {
-    // The kind that a code names; none for an unknown code, 0 among them. The conversion below is made by it.
+    // The kind that a code names; none for an unknown code, 0 among them. The conversion below is
+    // made by it.
     pub fn of(code: u8) -> Option<Kind>
         ensures { result ≡ kind_of code }
     {

@@ -16,6 +16,6 @@ pub use field::Field;
 pub use kind::Kind;
 pub use limits::{FIXED_HEADER, LONGEST, LONGEST_SIGNATURE, MOST_PAYLOADS, SAKKE_MESSAGE, VERSION};
 pub use number::UnknownNumber;
-pub use refusal::{Refusal, Told};
+pub use refusal::{Refusal, Report};
 pub use row::{Row, Walked};
 pub use slot::Slot;

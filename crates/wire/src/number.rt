@@ -1,6 +1,6 @@
 // Numbers that stand for things, where a message or a caller gives one.
 ghost use Rattle.std.specs.Prelude.{Some};
-ghost use Rattle.wire.specs.Texts.{unknown_text};
+ghost use Rattle.wire.specs.Texts.{unknown_number_text};
 
 use std::fmt;
 
@@ -11,7 +11,7 @@ pub struct UnknownNumber {
 }
 
 impl fmt::Display for UnknownNumber {
-    ghost output = { λ unknown. Some (unknown_text unknown.number) };
+    ghost output = { λ unknown. Some (unknown_number_text unknown.number) };
 
     fn fmt<W: fmt::Write>(&self, f: &mut fmt::Formatter<W>) -> fmt::Result {
         write!(f, "nothing has the number {}", self.number)

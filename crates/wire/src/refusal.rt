@@ -2,8 +2,8 @@
 // number, since a profile is asked for every number from 0 to 255.
 ghost use Rattle.std.specs.Prelude.{◌≡◌, Some};
 ghost use Rattle.wire.specs.declared.refusal.Refusal.{Refusal};
-ghost use Rattle.wire.specs.Refusals.{tells, told};
-ghost use Rattle.wire.specs.Texts.{told_text};
+ghost use Rattle.wire.specs.Refusals.{report, report_of};
+ghost use Rattle.wire.specs.Texts.{report_text};
 
 use crate::limits::LONGEST;
 use std::fmt;
@@ -11,7 +11,7 @@ use std::fmt;
 /// Why a message, a draft or a part of either is refused.
 ///
 /// Sheets and trust lists have enums of their own, in `profile` and `verifier`; each is told as
-/// [`Told`], and no two refusals of the three have one number. A byte is counted from the
+/// [`Report`], and no two refusals of the three have one number. A byte is counted from the
 /// message's start, or from that of what is offered to a draft.
 #[derive(Clone, Copy, PartialEq, Eq, Debug)]
 pub enum Refusal {
@@ -39,7 +39,7 @@ pub enum Refusal {
     PayloadCut(usize),
     /// 12: a payload breaks the rule inside it, by its start.
     PayloadRule(usize),
-    /// 13: bytes are left behind the last payload, by the first of them.
+    /// 13: bytes are left after the last payload, by the first of them.
     BytesLeft(usize),
     /// 14: the profile does not take a field's value; the field is its detail.
     FieldNotTaken { byte: usize, field: u8 },
@@ -56,7 +56,7 @@ pub enum Refusal {
     NoHeader,
     /// 20: the draft has no such position.
     NoPosition,
-    /// 21: map info is left behind its sessions.
+    /// 21: map info is left after its sessions.
     MapInfoLeft,
     /// 22: a 24th payload would leave no room for SIGN.
     DraftFull,
@@ -75,18 +75,18 @@ pub enum Refusal {
 /// Its number says which it is, its place is a byte or 0, and its detail a field's or a slot's
 /// number or 0.
 #[derive(Clone, Copy, PartialEq, Eq, Debug)]
-pub struct Told {
+pub struct Report {
     pub number: u8,
     pub place: usize,
     pub detail: u8,
 }
 
-impl Told {
+impl Report {
     /// A refusal with this number, place and detail.
-    pub const fn new(number: u8, place: usize, detail: u8) -> Told
-        ensures { result ≡ tells number place detail }
+    pub const fn new(number: u8, place: usize, detail: u8) -> Report
+        ensures { result ≡ report number place detail }
     {
-        Told {
+        Report {
             number,
             place,
             detail,
@@ -96,53 +96,53 @@ impl Told {
 
 impl Refusal {
     /// The refusal's number, place and detail.
-    pub fn told(self) -> Told
-        ensures is { result ≡ told self }
+    pub fn report(self) -> Report
+        ensures is { result ≡ report_of self }
         // Two refusals with the same number, place and detail are one.
-        ensures apart { (other : Refusal) → told other ≡ result → other ≡ self }
+        ensures apart { (other : Refusal) → report_of other ≡ result → other ≡ self }
     {
         match self {
-            Refusal::FewRows => Told::new(1, 0, 0),
-            Refusal::TooLong => Told::new(2, LONGEST, 0),
-            Refusal::TooShort(length) => Told::new(3, length, 0),
-            Refusal::Version => Told::new(4, 0, 0),
-            Refusal::DataType => Told::new(5, 1, 0),
-            Refusal::SessionMap(place) => Told::new(6, place, 0),
-            Refusal::SessionCut(place) => Told::new(7, place, 0),
-            Refusal::SessionRule(place) => Told::new(8, place, 0),
-            Refusal::UnknownCode(place) => Told::new(9, place, 0),
-            Refusal::ExtraPayload(place) => Told::new(10, place, 0),
-            Refusal::PayloadCut(place) => Told::new(11, place, 0),
-            Refusal::PayloadRule(place) => Told::new(12, place, 0),
-            Refusal::BytesLeft(place) => Told::new(13, place, 0),
-            Refusal::FieldNotTaken { byte, field } => Told::new(14, byte, field),
-            Refusal::RankFalls { start, slot } => Told::new(15, start, slot),
-            Refusal::AboveMost { start, slot } => Told::new(16, start, slot),
-            Refusal::BelowLeast { length, slot } => Told::new(17, length, slot),
-            Refusal::NotPassed(place) => Told::new(18, place, 0),
-            Refusal::NoHeader => Told::new(19, 0, 0),
-            Refusal::NoPosition => Told::new(20, 0, 0),
-            Refusal::MapInfoLeft => Told::new(21, 0, 0),
-            Refusal::DraftFull => Told::new(22, 0, 0),
-            Refusal::NoRoom => Told::new(23, 0, 0),
-            Refusal::SignForm => Told::new(24, 0, 0),
-            Refusal::SignatureLength => Told::new(25, 0, 0),
-            Refusal::RowOutside => Told::new(26, 0, 0),
+            Refusal::FewRows => Report::new(1, 0, 0),
+            Refusal::TooLong => Report::new(2, LONGEST, 0),
+            Refusal::TooShort(length) => Report::new(3, length, 0),
+            Refusal::Version => Report::new(4, 0, 0),
+            Refusal::DataType => Report::new(5, 1, 0),
+            Refusal::SessionMap(place) => Report::new(6, place, 0),
+            Refusal::SessionCut(place) => Report::new(7, place, 0),
+            Refusal::SessionRule(place) => Report::new(8, place, 0),
+            Refusal::UnknownCode(place) => Report::new(9, place, 0),
+            Refusal::ExtraPayload(place) => Report::new(10, place, 0),
+            Refusal::PayloadCut(place) => Report::new(11, place, 0),
+            Refusal::PayloadRule(place) => Report::new(12, place, 0),
+            Refusal::BytesLeft(place) => Report::new(13, place, 0),
+            Refusal::FieldNotTaken { byte, field } => Report::new(14, byte, field),
+            Refusal::RankFalls { start, slot } => Report::new(15, start, slot),
+            Refusal::AboveMost { start, slot } => Report::new(16, start, slot),
+            Refusal::BelowLeast { length, slot } => Report::new(17, length, slot),
+            Refusal::NotPassed(place) => Report::new(18, place, 0),
+            Refusal::NoHeader => Report::new(19, 0, 0),
+            Refusal::NoPosition => Report::new(20, 0, 0),
+            Refusal::MapInfoLeft => Report::new(21, 0, 0),
+            Refusal::DraftFull => Report::new(22, 0, 0),
+            Refusal::NoRoom => Report::new(23, 0, 0),
+            Refusal::SignForm => Report::new(24, 0, 0),
+            Refusal::SignatureLength => Report::new(25, 0, 0),
+            Refusal::RowOutside => Report::new(26, 0, 0),
         }
     }
 }
 
-impl From<Refusal> for Told {
-    ghost from_gives = { λ refusal t. t ≡ told refusal };
+impl From<Refusal> for Report {
+    ghost from_gives = { λ refusal t. t ≡ report_of refusal };
 
-    fn from(refusal: Refusal) -> Told {
-        refusal.told()
+    fn from(refusal: Refusal) -> Report {
+        refusal.report()
     }
 }
 
 // As programs print it.
-impl fmt::Display for Told {
-    ghost output = { λ told. Some (told_text told) };
+impl fmt::Display for Report {
+    ghost output = { λ report_of. Some (report_text report_of) };
 
     fn fmt<W: fmt::Write>(&self, f: &mut fmt::Formatter<W>) -> fmt::Result {
         write!(f, "{} {} {}", self.number, self.place, self.detail)

@@ -1,5 +1,5 @@
-// What a walk tells of a message: a row for each payload, and three numbers. Code and slot are numbers here and no enums, since calls
-// take rows of any numbers.
+// What a walk tells of a message: a row for each payload, and three numbers. Code and slot are
+// numbers here and no enums, since calls take rows of any numbers.
 ghost use Rattle.std.specs.Prelude.{◌≡◌, ◌+◌, Some};
 ghost use Rattle.wire.specs.Texts.{row_text, walked_text};
 
@@ -46,7 +46,8 @@ impl fmt::Display for Row {
     }
 }
 
-// The number of payloads with SIGN, the length of the header, and that of the span: all before the signature.
+// The number of payloads with SIGN, the length of the header, and that of the span: all before the
+// signature.
 #[derive(Clone, Copy, PartialEq, Eq, Debug)]
 pub struct Walked {
     pub count: usize,

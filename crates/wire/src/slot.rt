@@ -1,4 +1,5 @@
-// The slots of payloads, by their numbers. Number and conversion are written out for kinds, slots and fields alike: no derive makes them.
+// The slots of payloads, by their numbers. Number and conversion are written out for kinds, slots
+// and fields alike: no derive makes them.
 ghost use Rattle.std.specs.Prelude.{◌≡◌, ◌≤◌, Some};
 ghost use Rattle.wire.specs.Limits.{last_slot};
 ghost use Rattle.wire.specs.Numbered.{Names, slot_number};

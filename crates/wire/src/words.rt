@@ -99,7 +99,7 @@ impl fmt::Display for AtByte {
     }
 }
 
-// What is told behind the sentence.
+// What is told after the sentence.
 #[derive(Clone, Copy)]
 struct Detail(Refusal);
 
@@ -116,7 +116,7 @@ impl fmt::Display for Detail {
             }
             Refusal::BelowLeast { slot, .. } => write!(f, "{}", InSlot(slot)),
             Refusal::TooLong | Refusal::TooShort(_) => Ok(()),
-            refusal => write!(f, "{}", AtByte(refusal.told().place)),
+            refusal => write!(f, "{}", AtByte(refusal.report().place)),
         }
     }
 }

@@ -2,10 +2,10 @@
 -- answers and of the buffer. Where a row says otherwise, the error stands at its own equation.
 use Rattle.std.proofs.Common.{refl}
 use Rattle.wire.specs.Rows.{rows_from}
-use Rattle.wire.specs.Walking.{sessions, chain}
-use Rattle.profile.specs.Admitting.{fitting}
-use Rattle.profile.specs.Parsing.{lines_from}
-use Rattle.plain.specs.Steps.{replies, ends}
+use Rattle.wire.specs.Walking.{sessions_answer, chain_answer}
+use Rattle.profile.specs.Admitting.{payloads_answer}
+use Rattle.profile.specs.Parsing.{lines_answer}
+use Rattle.plain.specs.Steps.{replies_of, draft_after}
 use Rattle.cases.proofs.tried.Goals as goal
 
 -- the first row, and the rest of the table
@@ -15,7 +15,7 @@ a & b = (a, b)
 
 -- src/lib.rt:9:1
 pub returns-clause-tried : goal.returns-clause-tried
-unfolding rows_from sessions chain fitting lines_from replies ends
+unfolding rows_from sessions_answer chain_answer payloads_answer lines_answer replies_of draft_after
 returns-clause-tried c =
     -- walked
     refl & refl & refl & refl & refl & refl & refl

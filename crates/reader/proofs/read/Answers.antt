@@ -2,8 +2,8 @@ use Rattle.std.proofs.Common.{◌++◌, drop, refl, sym, ap, ◌∙◌, subst}
 use Rattle.std.proofs.lemmas.List.{length-take-le}
 use Rattle.std.proofs.lemmas.Result.{err_from_is_err_and}
 use Rattle.wire.proofs.Numbers.{octets}
-use Rattle.walk.specs.Walks.{Told}
-use Rattle.walk.specs.Tables.{blanks}
+use Rattle.walk.specs.Walks.{IsMessageIn}
+use Rattle.walk.specs.Tables.{blank_rows}
 use Rattle.walk.proofs.Tables.{table_told}
 use Rattle.reader.proofs.Promises.{few_rows, walk_refused, judge_refused, judge_passed}
 use Rattle.reader.proofs.read.Goals as goal
@@ -22,7 +22,7 @@ returns-in_err-judge g c =
     let w = c.in_ok-walked.walked in
     let t = c.in_ok-walked.ensures in
     let told = t.walks.only_lawful w refl in
-    let here = subst (λ x. Told told.0 bytes blanks w x) (sym (table_told bytes _ w t)) told.1 in
+    let here = subst (λ x. IsMessageIn told.0 bytes blank_rows w x) (sym (table_told bytes _ w t)) told.1 in
     judge_refused _ _ _ (octets _ c.type_inv.message) _ c.if-rows-lt-MOST_PAYLOADS.false told.0 w _ here _ _ c.in_err-judge.ensures.value
     (err_from_is_err_and _ c.from_residual-in_err-judge.ensures.1)
 
@@ -32,7 +32,7 @@ returns g c =
     let w = c.in_ok-walked.walked in
     let t = c.in_ok-walked.ensures in
     let told = t.walks.only_lawful w refl in
-    let here = subst (λ x. Told told.0 bytes blanks w x) (sym (table_told bytes _ w t)) told.1 in
+    let here = subst (λ x. IsMessageIn told.0 bytes blank_rows w x) (sym (table_told bytes _ w t)) told.1 in
     judge_passed _ _ _ (octets _ c.type_inv.message) _ c.if-rows-lt-MOST_PAYLOADS.false told.0 w _ here _ c.in_ok-judge.ensures.value
     (ap (λ x. x ++ drop 24 c.args.rows.now) c.copy_from_slice.ensures.after)
 

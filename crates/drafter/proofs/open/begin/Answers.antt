@@ -1,7 +1,7 @@
 use Rattle.std.proofs.Common.{refl}
 use Rattle.plain.specs.Drafts.{begin}
 use Rattle.plain.specs.Drafts.Stage.{opened}
-use Rattle.drafter.proofs.Showing.{at_is, shown, stage_is}
+use Rattle.drafter.proofs.Represents.{at_is, shown, stage_is}
 use Rattle.drafter.proofs.Calling.{begun_image, begun_shows}
 use Rattle.drafter.proofs.open.begin.Goals as goal
 

@@ -1,6 +1,6 @@
 use Rattle.std.proofs.Common.{◌≡◌, ◌+◌, sym, refl, ap, ◌∙◌, subst, arith}
-use Rattle.plain.specs.Steps.{headed}
-use Rattle.exchange.specs.Redrafts.{Drafts}
+use Rattle.plain.specs.Steps.{header_of_head}
+use Rattle.exchange.specs.Redrafts.{DraftsMessage}
 use Rattle.exchange.proofs.Listed.{measures, head_at, add_at, close_at, sign_at}
 use Rattle.exchange.proofs.Redrafted.{redrawn_first, redrawn_next, redrawn_drafts}
 use Rattle.exchange.proofs.redrafting.draft_again.Goals as goal
@@ -15,7 +15,7 @@ loop-i-init g c =
     let h = c.head.new.self in (
       redrawn_first T c.args.message.now c.args.walked.now c.args.rows.now c.requires.told c.args.buffer.now o.bytes h.bytes o.plain h.plain _ _
           c.begin-open.ensures.buffer c.begin-open.ensures.draft
-          (λ m l e d. head_at T c.args.message.now c.args.walked.now c.args.rows.now c.requires.told m l e (headed c.head_of-head.result) d c.head_of-head.ensures) c.head.ensures.turned.turns,
+          (λ m l e d. head_at T c.args.message.now c.args.walked.now c.args.rows.now c.requires.told m l e (header_of_head c.head_of-head.result) d c.head_of-head.ensures) c.head.ensures.turned.turns,
       refl,
     )
 
@@ -69,6 +69,6 @@ returns g c =
     let drafts = redrawn_drafts T message w table c.requires.told c.args.buffer.now c.begin-open.result.bytes base y.plain y.bytes c.release.result.0
     c.requires.room c.begin-open.ensures.buffer t.long t.past (i + 1 + 1 + 1) three signed c.release.ensures.answer in
     record {
-      drafted = subst (λ z. Drafts T message c.args.buffer.now z c.release.result.0) (sym c.release.ensures.buffer) drafts;
+      drafted = subst (λ z. DraftsMessage T message c.args.buffer.now z c.release.result.0) (sym c.release.ensures.buffer) drafts;
       lent = c.release.ensures.lent ∙ c.sign.ensures.turned.name ∙ c.close-out.ensures.name ∙ c.loop-i.invariant.1 ∙ c.head.ensures.turned.name ∙ c.begin-open.ensures.lent;
     }

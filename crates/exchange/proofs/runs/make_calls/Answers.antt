@@ -1,6 +1,6 @@
 use Rattle.std.proofs.Common.{length, sym, refl, ap, ◌∙◌, subst, arith}
-use Rattle.plain.specs.Drafts.{image}
-use Rattle.plain.specs.Steps.{called}
+use Rattle.plain.specs.Drafts.{buffer_of}
+use Rattle.plain.specs.Steps.{call_step}
 use Rattle.drafter.specs.States.{view_in}
 use Rattle.exchange.specs.Runs.{steps_of, Runs, all_made}
 use Rattle.exchange.proofs.Running.{reached_first, answered_first, reached_next, answered_next, reached_runs, begun_again, step_at, steps_long}
@@ -10,7 +10,7 @@ pub loop-i-init : goal.loop-i-init
 loop-i-init g c =
     let d = c.begin.result in
     let cs = steps_of g.P.Profile.tables c.args.calls.now in
-    let e = begun_again c.args.buffer.now d.bytes c.begin.ensures.buffer ∙ ap (image d.bytes) (sym c.begin.ensures.draft) in (
+    let e = begun_again c.args.buffer.now d.bytes c.begin.ensures.buffer ∙ ap (buffer_of d.bytes) (sym c.begin.ensures.draft) in (
       reached_first d.bytes cs d.plain c.begin.ensures.draft e,
       answered_first d.bytes cs d.plain c.args.replies.now c.begin.ensures.draft,
       refl,
@@ -26,9 +26,9 @@ loop-i-preserved g c =
     let start = c.begin.result.bytes in
     let is = step_at tables calls i x (omega arith) c.index-calls-i.is in (
       reached_next start (steps_of tables calls) i (view_in c.loop-i.state).plain (view_in c.call-next.result.0).plain (view_in c.loop-i.state).bytes (view_in c.call-next.result.0).bytes
-          (called tables x) c.call-next.result.1 c.loop-i.invariant.0 (omega arith) is c.call-next.ensures.turned.turns,
+          (call_step tables x) c.call-next.result.1 c.loop-i.invariant.0 (omega arith) is c.call-next.ensures.turned.turns,
       answered_next start (steps_of tables calls) i (view_in c.loop-i.state).plain (view_in c.call-next.result.0).plain (view_in c.loop-i.state).bytes (view_in c.call-next.result.0).bytes
-          (called tables x) c.call-next.result.1 c.loop-i.invariant.0 (omega arith) is c.call-next.ensures.turned.turns c.loop-i.replies (omega arith) c.call-next.ensures.widths c.loop-i.invariant.1,
+          (call_step tables x) c.call-next.result.1 c.loop-i.invariant.0 (omega arith) is c.call-next.ensures.turned.turns c.loop-i.replies (omega arith) c.call-next.ensures.widths c.loop-i.invariant.1,
       c.call-next.ensures.turned.name ∙ c.loop-i.invariant.2,
     )
 

@@ -1,5 +1,5 @@
 use Rattle.std.proofs.Common.{arith, rules}
-use Rattle.profile.specs.Parsing.{lines_from}
+use Rattle.profile.specs.Parsing.{lines_answer}
 use Rattle.profile.proofs.Lines.{goes_on}
 use Rattle.profile.proofs.Entries.{laid_next}
 use Rattle.profile.proofs.sheet.lines.Goals as goal
@@ -22,5 +22,5 @@ loop-rest-preserved c =
     }
 
 pub returns : goal.returns
-unfolding lines_from
+unfolding lines_answer
 returns c = search rules

@@ -6,7 +6,7 @@ use Rattle.wire.specs.declared.row.Row.{Row}
 use Rattle.wire.specs.contracts.kind.Kind.{the_type}
 use Rattle.wire.specs.Kinds.{code_of}
 use Rattle.wire.specs.Rows.{slot_of}
-use Rattle.wire.specs.Walking.{kind_at}
+use Rattle.wire.specs.Walking.{kind_answer}
 use Rattle.wire.proofs.Codes.{not_sign}
 use Rattle.walk.proofs.Scanning.{PayloadLength, row_of, others_set, kind_refused, one_too_many, payload_refused, next_row, sign_row}
 use Rattle.walk.proofs.chain.chain.Goals as goal
@@ -34,7 +34,7 @@ returns-then-eq c =
     let n = found.length in
     let row : Row = row_of found.code found.slot l.at n in
     let s : c.in_ok-kind.kind ≡ Sign = same_true the_type (search rules) _ _ (sym c.if-eq.ensures) in
-    let k : Ok Sign ≡ kind_at (get_or m l.naming 0) l.naming = subst (λ x. Ok x ≡ kind_at (get_or m l.naming 0) l.naming) s c.in_ok-kind.ensures in
+    let k : Ok Sign ≡ kind_answer (get_or m l.naming 0) l.naming = subst (λ x. Ok x ≡ kind_answer (get_or m l.naming 0) l.naming) s c.in_ok-kind.ensures in
     let r : Ok n ≡ PayloadLength m Sign l.at = subst (λ x. Ok n ≡ PayloadLength m x l.at) s c.in_ok-found.ensures.answer in
     let is : row ≡ row_of 4 11 l.at n = rw (told.code, told.slot, s) in
     let e = sign_row m l.table l.i l.naming l.at n _ (omega arith) k r is ∙ l.invariant.left in

@@ -2,8 +2,8 @@ use Rattle.drafter.proofs.Asking.{placed}
 use Rattle.drafter.proofs.Located.{header_some}
 use Rattle.drafter.proofs.edit.RemoveEdit.ask.Goals as goal
 
-pub part-requires : goal.part-requires
-part-requires c =
+pub region-requires : goal.region-requires
+region-requires c =
     let s = c.args.core.now in
-    let h = placed s c.requires.shown c.args.self.now.position s.count c.in_ok-ask_position.ensures in
+    let h = placed s c.requires.shown c.args.self.now.position s.count c.in_ok-check_position.ensures in
     record { draft = c.requires; there = (header_some s c.requires.shown h.0 h.1.0, h.1.1) }

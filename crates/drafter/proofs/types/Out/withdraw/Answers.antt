@@ -8,7 +8,7 @@ pub invariant_of-result : goal.invariant_of-result
 invariant_of-result c =
     let s = c.self.inside.core in
     elim c.match-outcome.branch [
-      | in-Signing w ↦ rw w.core-is (fall_open s w.fall.new.self w.fall.ensures)
+      | in-Signing w ↦ rw w.core-is (fall_open s w.remove_sign.new.self w.remove_sign.ensures)
       | in-Faulty w ↦ rw w.core-is (subst (λ o. OutDraft o s) w.in-Faulty.is c.self.invariant)
     ]
 
@@ -16,6 +16,6 @@ pub returns : goal.returns
 returns c =
     let s = c.self.inside.core in
     elim c.match-outcome.branch [
-      | in-Signing w ↦ rw (w.core-is, ← c.self.view_is, w.in-Signing.is) (withdraw_falls s (subst (λ o. OutDraft o s) w.in-Signing.is c.self.invariant) w.in-Signing.field-0 w.fall.new.self w.fall.ensures)
+      | in-Signing w ↦ rw (w.core-is, ← c.self.view_is, w.in-Signing.is) (withdraw_falls s (subst (λ o. OutDraft o s) w.in-Signing.is c.self.invariant) w.in-Signing.field-0 w.remove_sign.new.self w.remove_sign.ensures)
       | in-Faulty w ↦ rw (w.core-is, ← c.self.view_is, w.in-Faulty.is) (withdraw_clears s (subst (λ o. OutDraft o s) w.in-Faulty.is c.self.invariant) w.in-Faulty.field-0)
     ]

@@ -1,7 +1,7 @@
 use Rattle.std.proofs.Common.{◌≡◌, ◌-◌, length}
 use Rattle.std.specs.List.{range_with_len}
-use Rattle.profile.specs.Admits.{slots}
-use Rattle.profile.specs.Admitting.{sufficing}
+use Rattle.profile.specs.Admits.{slot_numbers}
+use Rattle.profile.specs.Admitting.{least_answers}
 use Rattle.profile.proofs.admission.Admission.least.Given as goal
 
 abbrev pub invariant-loop-slot : goal.invariant-loop-slot
@@ -9,4 +9,4 @@ invariant-loop-slot g l =
     let T = g.P.Profile.tables l.self.profile.now in
     let end = length l.self.message.now in
     let rows = l.self.rows.now in
-    sufficing T end rows (range_with_len l.slot (13 - l.slot)) ≡ sufficing T end rows slots
+    least_answers T end rows (range_with_len l.slot (13 - l.slot)) ≡ least_answers T end rows slot_numbers

@@ -1,7 +1,7 @@
 use Rattle.std.proofs.Common.{sym, subst, take, arith, rules}
 use Rattle.std.proofs.lemmas.List.{drop_all, take_all}
-use Rattle.profile.specs.Admitting.{slots_in, fitting}
-use Rattle.profile.specs.Counts.{Counting}
+use Rattle.profile.specs.Admitting.{slots_in, payloads_answer}
+use Rattle.profile.specs.Counts.{IsCountTable}
 use Rattle.profile.proofs.Counting.{slots_more}
 use Rattle.profile.proofs.Turns.{fitting_next}
 use Rattle.profile.proofs.admission.Admission.payloads.Goals as goal
@@ -14,11 +14,11 @@ loop-i-preserved g c =
     let rows = c.args.self.now.rows.now in
     record {
       left = search (rules, fitting_next);
-      counted = subst (λ ss. Counting ss c.enter.new.self.by_slot) (sym (slots_more rows c.loop-i.i (omega arith))) (c.enter.ensures (slots_in (take c.loop-i.i rows)) c.loop-i.invariant.counted);
+      counted = subst (λ ss. IsCountTable ss c.enter.new.self.by_slot) (sym (slots_more rows c.loop-i.i (omega arith))) (c.enter.ensures (slots_in (take c.loop-i.i rows)) c.loop-i.invariant.counted);
     }
 
 pub returns-clause-answer : goal.returns-clause-answer
-unfolding fitting
+unfolding payloads_answer
 returns-clause-answer g c = search (rules, drop_all)
 
 pub returns-clause-counted : goal.returns-clause-counted

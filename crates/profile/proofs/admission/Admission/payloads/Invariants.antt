@@ -1,6 +1,6 @@
 use Rattle.std.proofs.Common.{◌≡◌, [], take, drop}
-use Rattle.profile.specs.Admitting.{slots_in, fitting}
-use Rattle.profile.specs.Counts.{Counting}
+use Rattle.profile.specs.Admitting.{slots_in, payloads_answer}
+use Rattle.profile.specs.Counts.{IsCountTable}
 use Rattle.profile.proofs.admission.Admission.payloads.Given as goal
 
 abbrev pub invariant-loop-i : goal.invariant-loop-i
@@ -9,6 +9,6 @@ invariant-loop-i g l =
     let bs = l.self.message.now in
     let rows = l.self.rows.now in
     record {
-      left : fitting T bs l.last (take l.i rows) (drop l.i rows) ≡ fitting T bs 0 [] rows;
-      counted : Counting (slots_in (take l.i rows)) l.counts.by_slot;
+      left : payloads_answer T bs l.last (take l.i rows) (drop l.i rows) ≡ payloads_answer T bs 0 [] rows;
+      counted : IsCountTable (slots_in (take l.i rows)) l.counts.by_slot;
     }

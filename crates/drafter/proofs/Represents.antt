@@ -3,18 +3,18 @@ use Rattle.std.proofs.Common.{◌≡◌, ℕ, ◌+◌, ◌-◌, ◌*◌, ◌/◌
 use Rattle.std.proofs.lemmas.Bool.{lt-ltb, le-ltb, ne_eqb}
 use Rattle.std.proofs.lemmas.List.{drop-drop, nil_from_length}
 use Rattle.wire.specs.Octets.{value_at}
-use Rattle.wire.specs.Messages.{Header, Payload, first, payloads_bytes, front, sign_body}
+use Rattle.wire.specs.Messages.{Header, Payload, first_code, payloads_bytes, unsigned_bytes, sign_body}
 use Rattle.wire.specs.Lawful.{LawfulSign}
 use Rattle.wire.specs.Walking.{header_of}
 use Rattle.wire.proofs.Numbers.{value_back, value_past}
 use Rattle.wire.proofs.Messages.{header_back}
-use Rattle.plain.specs.Drafts.{Held, Sign, Stage, Draft, counted, bytes_of, standing, encoded}
+use Rattle.plain.specs.Drafts.{Held, Sign, Stage, Draft, counted_length, bytes_of, stage_sign, encoding_of}
 use Rattle.plain.specs.Drafts.Stage.{released}
-use Rattle.plain.specs.Kept.{SignKept}
+use Rattle.plain.specs.LawfulDrafts.{LawfulHeldSign}
 use Rattle.drafter.specs.declared.state.Core.{Core}
-use Rattle.drafter.specs.Spots.{payloads_from}
-use Rattle.drafter.specs.Cores.{header_size, Shows, header_in, sign_in, sign_now, held_of, sign_of, plain_of, plain_at, Shown}
-use Rattle.drafter.proofs.Spotting.{same_front, spot_behind, payloads_there}
+use Rattle.drafter.specs.Locations.{payloads_from}
+use Rattle.drafter.specs.Cores.{header_size, Represents, header_in, sign_in, sign_now, held_of, sign_of, plain_of, plain_at, IsRepresented}
+use Rattle.drafter.proofs.Locating.{same_front, spot_behind, payloads_there}
 
 -- the code that the last payload, or the header, names
 abbrev pub ending : Option Sign → ℕ
@@ -28,12 +28,12 @@ sign_bytes (Some g) = sign_body g.type g.signature
 -- the bytes but SIGN
 abbrev pub bare_of : ℕ → Option Header → List Payload → List ℕ
 bare_of c None ps = []
-bare_of c (Some h) ps = front c h ps
+bare_of c (Some h) ps = unsigned_bytes c h ps
 
-bytes_split : (o : Option Header) (ps : List Payload) (g : Option Sign) → SignKept o g → bytes_of o ps g ≡ bare_of (ending g) o ps ++ sign_bytes g
+bytes_split : (o : Option Header) (ps : List Payload) (g : Option Sign) → LawfulHeldSign o g → bytes_of o ps g ≡ bare_of (ending g) o ps ++ sign_bytes g
 bytes_split None ps None k = refl
 bytes_split None ps (Some g) k = absurd k
-bytes_split (Some h) ps None k = sym (append-nil (front 0 h ps))
+bytes_split (Some h) ps None k = sym (append-nil (unsigned_bytes 0 h ps))
 bytes_split (Some h) ps (Some g) k = refl
 
 pub bare_length : (c : ℕ) (o : Option Header) (ps : List Payload) → length (bare_of c o ps) ≡ length (bytes_of o ps None)
@@ -41,7 +41,7 @@ bare_length c None ps = refl
 bare_length c (Some h) ps = same_front c 0 h ps
 
 -- the parts of the buffer: the records, SIGN, and what follows
-module _ (s : Draft) (c : Core) (w : Shows s c) where
+module _ (s : Draft) (c : Core) (w : Represents s c) where
   abbrev o : Option Header
   o = s.held.header
 
@@ -49,13 +49,13 @@ module _ (s : Draft) (c : Core) (w : Shows s c) where
   ps = s.held.payloads
 
   abbrev g : Option Sign
-  g = standing s.stage
+  g = stage_sign s.stage
 
   abbrev bs : List ℕ
   bs = c.buffer.now
 
   abbrev rest : List ℕ
-  rest = replicate (counted bs - length (encoded s)) 0 ++ drop (counted bs) bs
+  rest = replicate (counted_length bs - length (encoding_of s)) 0 ++ drop (counted_length bs) bs
 
   parts : bs ≡ bare_of (ending g) o ps ++ (sign_bytes g ++ rest)
   parts = w.is ∙ ap (λ x. x ++ rest) (bytes_split o ps g w.kept.sign) ∙ append_assoc (bare_of (ending g) o ps) (sign_bytes g) rest
@@ -82,9 +82,9 @@ module _ (s : Draft) (c : Core) (w : Shows s c) where
   held_there (Some h) e =
       let size : c.header ≡ 10 + length h.map_info = w.header ∙ ap header_size e in
       let some : eqb c.header 0 ≡ false = ne_eqb _ _ (omega arith) in
-      let records : take c.end bs ≡ front (ending g) h ps = records_are ∙ ap (λ x. bare_of (ending g) x ps) e in
-      let at : c.header ≡ length (front 0 h []) = omega (arith, length-append h.map_info []) in (
-        rw some (ap Some (ap (λ x. header_of x (take (c.header - 10) (drop 10 x))) records ∙ header_back (first (ending g) ps) h (payloads_bytes (ending g) ps) (c.header - 10) (omega arith))),
+      let records : take c.end bs ≡ unsigned_bytes (ending g) h ps = records_are ∙ ap (λ x. bare_of (ending g) x ps) e in
+      let at : c.header ≡ length (unsigned_bytes 0 h []) = omega (arith, length-append h.map_info []) in (
+        rw some (ap Some (ap (λ x. header_of x (take (c.header - 10) (drop 10 x))) records ∙ header_back (first_code (ending g) ps) h (payloads_bytes (ending g) ps) (c.header - 10) (omega arith))),
         ap₂ (λ k a. payloads_from k (record { naming = 2; at = a }) (take c.end bs)) w.count at
             ∙ ap (payloads_from (length ps) (spot_behind h [])) records ∙ payloads_there (ending g) h [] ps w.kept.sound.payloads,
       )
@@ -121,12 +121,12 @@ module _ (s : Draft) (c : Core) (w : Shows s c) where
   absent e = le-ltb _ _ (omega (arith, full_is, ap (λ x. length (sign_bytes x)) e))
 
   -- SIGN that stands is lawful
-  lawful_sign : (x : Option Header) (y : Sign) → SignKept x (Some y) → LawfulSign y.type y.signature
+  lawful_sign : (x : Option Header) (y : Sign) → LawfulHeldSign x (Some y) → LawfulSign y.type y.signature
   lawful_sign None y k = absurd k
   lawful_sign (Some h) y k = k
 
   pub sign_lawful : (y : Sign) → g ≡ Some y → LawfulSign y.type y.signature
-  sign_lawful y e = lawful_sign o y (subst (SignKept o) e w.kept.sign)
+  sign_lawful y e = lawful_sign o y (subst (LawfulHeldSign o) e w.kept.sign)
 
   stage_there : (x : Option Sign) → g ≡ x → cond (ltb c.end c.full) (Some (sign_now c)) None ≡ x
   stage_there None e = rw (absent e)
@@ -145,25 +145,25 @@ module _ (s : Draft) (c : Core) (w : Shows s c) where
   at_is x e = ap₂ (λ (y : Held) z. record { held = y; stage = z }) (ap (λ y. y.held) plain_is) (sym e)
 
 -- a stage is shown by the SIGN that stands alone
-pub restaged : (d : Held) (x y : Stage) (c : Core) → standing x ≡ standing y → Shows (record { held = d; stage = x }) c → Shows (record { held = d; stage = y }) c
+pub restaged : (d : Held) (x y : Stage) (c : Core) → stage_sign x ≡ stage_sign y → Represents (record { held = d; stage = x }) c → Represents (record { held = d; stage = y }) c
 restaged d x y c e w =
-    let one : encoded (record { held = d; stage = x }) ≡ encoded (record { held = d; stage = y }) = ap (bytes_of d.header d.payloads) e in
+    let one : encoding_of (record { held = d; stage = x }) ≡ encoding_of (record { held = d; stage = y }) = ap (bytes_of d.header d.payloads) e in
     record {
       counted = w.counted;
-      kept = record { sound = w.kept.sound; sign = subst (SignKept d.header) e w.kept.sign; fits = subst (λ b. length b ≤ c.counted) one w.kept.fits };
+      kept = record { sound = w.kept.sound; sign = subst (LawfulHeldSign d.header) e w.kept.sign; fits = subst (λ b. length b ≤ c.counted) one w.kept.fits };
       header = w.header;
       count = w.count;
       end = w.end;
       full = w.full ∙ ap length one;
-      is = w.is ∙ ap (λ b. b ++ (replicate (counted c.buffer.now - length b) 0 ++ drop (counted c.buffer.now) c.buffer.now)) one;
+      is = w.is ∙ ap (λ b. b ++ (replicate (counted_length c.buffer.now - length b) 0 ++ drop (counted_length c.buffer.now) c.buffer.now)) one;
     }
 
--- behind a header, the records end with the front
-pub end_is : (c : Core) → Shown c → (h : Header) → (plain_of c).held.header ≡ Some h → c.end ≡ length (front 0 h (plain_of c).held.payloads)
+-- after a header, the records end with the front
+pub end_is : (c : Core) → IsRepresented c → (h : Header) → (plain_of c).held.header ≡ Some h → c.end ≡ length (unsigned_bytes 0 h (plain_of c).held.payloads)
 end_is c w h e = w.end ∙ ap (λ x. length (bytes_of x (plain_of c).held.payloads None)) e
 
-pub shown : (s : Draft) (c : Core) → Shows s c → Shown c
-shown s c w = subst (λ x. Shows x c) (sym (plain_is s c w)) (restaged s.held s.stage (released (standing s.stage)) c refl w)
+pub shown : (s : Draft) (c : Core) → Represents s c → IsRepresented c
+shown s c w = subst (λ x. Represents x c) (sym (plain_is s c w)) (restaged s.held s.stage (released (stage_sign s.stage)) c refl w)
 
-pub shown_at : (g : Stage) (c : Core) → (plain_of c).stage ≡ released (standing g) → Shown c → Shows (plain_at g c) c
-shown_at g c e w = restaged (plain_of c).held (plain_of c).stage g c (ap standing e) w
+pub shown_at : (g : Stage) (c : Core) → (plain_of c).stage ≡ released (stage_sign g) → IsRepresented c → Represents (plain_at g c) c
+shown_at g c e w = restaged (plain_of c).held (plain_of c).stage g c (ap stage_sign e) w

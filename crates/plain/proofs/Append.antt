@@ -4,23 +4,23 @@ use Rattle.std.specs.List.{remove}
 use Rattle.std.proofs.lemmas.List.{set_at, get_or-set_same, drop_more}
 use Rattle.wire.specs.declared.kind.Kind.TheVariants.{T}
 use Rattle.wire.specs.Kinds.{code_of}
-use Rattle.wire.specs.Messages.{Header, Payload, first, header_bytes, payloads_bytes, front}
+use Rattle.wire.specs.Messages.{Header, Payload, first_code, header_bytes, payloads_bytes, unsigned_bytes}
 
 -- the code of what follows earlier payloads
-first_append : (end : ℕ) (ps qs : List Payload) → first end (ps ++ qs) ≡ first (first end qs) ps
+first_append : (end : ℕ) (ps qs : List Payload) → first_code end (ps ++ qs) ≡ first_code (first_code end qs) ps
 first_append end [] qs = refl
 first_append end (p ∷ ps) qs = refl
 
-pub payloads_append : (end : ℕ) (ps qs : List Payload) → payloads_bytes end (ps ++ qs) ≡ payloads_bytes (first end qs) ps ++ payloads_bytes end qs
+pub payloads_append : (end : ℕ) (ps qs : List Payload) → payloads_bytes end (ps ++ qs) ≡ payloads_bytes (first_code end qs) ps ++ payloads_bytes end qs
 payloads_append end [] qs = refl
 payloads_append end (p ∷ ps) qs =
     ap₂ (λ c x. c ∷ (p.body ++ x)) (first_append end ps qs) (payloads_append end ps qs)
-    ∙ ap (λ x. first (first end qs) ps ∷ x) (sym (append_assoc p.body (payloads_bytes (first end qs) ps) (payloads_bytes end qs)))
+    ∙ ap (λ x. first_code (first_code end qs) ps ∷ x) (sym (append_assoc p.body (payloads_bytes (first_code end qs) ps) (payloads_bytes end qs)))
 
-pub front_append : (end : ℕ) (h : Header) (ps qs : List Payload) → front end h (ps ++ qs) ≡ front (first end qs) h ps ++ payloads_bytes end qs
+pub front_append : (end : ℕ) (h : Header) (ps qs : List Payload) → unsigned_bytes end h (ps ++ qs) ≡ unsigned_bytes (first_code end qs) h ps ++ payloads_bytes end qs
 front_append end h ps qs =
     ap₂ (λ c x. header_bytes c h ++ x) (first_append end ps qs) (payloads_append end ps qs)
-    ∙ sym (append_assoc (header_bytes (first (first end qs) ps) h) (payloads_bytes (first end qs) ps) (payloads_bytes end qs))
+    ∙ sym (append_assoc (header_bytes (first_code (first_code end qs) ps) h) (payloads_bytes (first_code end qs) ps) (payloads_bytes end qs))
 
 abbrev pub nothing : Payload
 nothing = record { kind = T; body = [] }
@@ -39,7 +39,7 @@ pub lengths_one : (p : Payload) → lengths (p ∷ []) ≡ 1 + length p.body
 unfolding lengths
 lengths_one p = omega arith
 
--- the payload at a position, between those before and behind it
+-- the payload at a position, between those before and after it
 pub cut_at : (ps : List Payload) (i : ℕ) → i < length ps → ps ≡ take i ps ++ (get_or ps i nothing ∷ drop (i + 1) ps)
 cut_at ps i h = sym (take-append-drop i ps) ∙ ap (λ x. take i ps ++ x) (drop_more ps i nothing h)
 
@@ -60,8 +60,8 @@ unfolding lengths
 payloads_long end [] = refl
 payloads_long end (p ∷ ps) = omega (arith, length-append p.body (payloads_bytes end ps), payloads_long end ps)
 
-pub front_long : (end : ℕ) (h : Header) (ps : List Payload) → length (front end h ps) ≡ 10 + length h.map_info + lengths ps
-front_long end h ps = omega (arith, length-append (header_bytes (first end ps) h) (payloads_bytes end ps), payloads_long end ps)
+pub front_long : (end : ℕ) (h : Header) (ps : List Payload) → length (unsigned_bytes end h ps) ≡ 10 + length h.map_info + lengths ps
+front_long end h ps = omega (arith, length-append (header_bytes (first_code end ps) h) (payloads_bytes end ps), payloads_long end ps)
 
 -- where the byte stands that names what follows payloads: `naming` names the first of them, which starts at `at`
 abbrev pub naming_from : ℕ → ℕ → List Payload → ℕ
@@ -76,8 +76,8 @@ unfolding lengths
 naming_push naming at [] p = omega arith
 naming_push naming at (q ∷ ps) p = naming_push at (at + (1 + length q.body)) ps p ∙ omega arith
 
--- behind one more payload it is that payload's first byte
-pub naming_next : (end : ℕ) (h : Header) (ps : List Payload) (p : Payload) → naming_of h (ps ++ (p ∷ [])) ≡ length (front end h ps)
+-- after one more payload it is that payload's first byte
+pub naming_next : (end : ℕ) (h : Header) (ps : List Payload) (p : Payload) → naming_of h (ps ++ (p ∷ [])) ≡ length (unsigned_bytes end h ps)
 naming_next end h ps p = naming_push 2 (10 + length h.map_info) ps p ∙ sym (front_long end h ps)
 
 -- writing that byte changes what follows, and nothing else
@@ -92,7 +92,7 @@ renamed_from c d naming at before p (q ∷ ps) e =
     ap (λ y. set y (naming_from at next (q ∷ ps)) d) (joins c)
     ∙ renamed_from c d at next (before ++ x) q ps (omega (arith, length-append before x)) ∙ sym (joins d)
 
-pub renamed : (c d : ℕ) (h : Header) (ps : List Payload) → set (front c h ps) (naming_of h ps) d ≡ front d h ps
+pub renamed : (c d : ℕ) (h : Header) (ps : List Payload) → set (unsigned_bytes c h ps) (naming_of h ps) d ≡ unsigned_bytes d h ps
 renamed c d h [] = refl
 renamed c d h (p ∷ ps) = renamed_from c d 2 (10 + length h.map_info) (header_bytes (code_of p.kind) h) p ps (omega arith)
 
@@ -101,10 +101,10 @@ unfolding lengths
 naming_from_within naming at [] h = omega arith
 naming_from_within naming at (p ∷ ps) h = omega (arith, naming_from_within at (at + (1 + length p.body)) ps (omega arith))
 
-pub naming_within : (end : ℕ) (h : Header) (ps : List Payload) → naming_of h ps < length (front end h ps)
+pub naming_within : (end : ℕ) (h : Header) (ps : List Payload) → naming_of h ps < length (unsigned_bytes end h ps)
 naming_within end h ps = omega (arith, naming_from_within 2 (10 + length h.map_info) ps (omega arith), front_long end h ps)
 
 -- it holds the code of what follows
-pub named : (c : ℕ) (h : Header) (ps : List Payload) → get_or (front c h ps) (naming_of h ps) 0 ≡ c
+pub named : (c : ℕ) (h : Header) (ps : List Payload) → get_or (unsigned_bytes c h ps) (naming_of h ps) 0 ≡ c
 named c h ps =
-    ap (λ x. get_or x (naming_of h ps) 0) (sym (renamed c c h ps)) ∙ get_or-set_same (front c h ps) (naming_of h ps) c 0 (naming_within c h ps)
+    ap (λ x. get_or x (naming_of h ps) 0) (sym (renamed c c h ps)) ∙ get_or-set_same (unsigned_bytes c h ps) (naming_of h ps) c 0 (naming_within c h ps)

@@ -3,7 +3,7 @@ use Rattle.std.specs.Option.{is_some}
 use Rattle.std.specs.Result.{result_ok}
 use Rattle.drafter.proofs.Asking.{with_header}
 use Rattle.drafter.proofs.Closing.{close_cramped, close_stands}
-use Rattle.drafter.proofs.state.Core.ask_close.Goals as goal
+use Rattle.drafter.proofs.state.Core.check_close.Goals as goal
 
 pub returns-then-form-self-clause-answer : goal.returns-then-form-self-clause-answer
 returns-then-form-self-clause-answer c =

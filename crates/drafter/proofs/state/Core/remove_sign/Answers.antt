@@ -1,6 +1,6 @@
 use Rattle.std.proofs.Common.{arith}
-use Rattle.drafter.proofs.Standing.{signed_long, full_within, fall_at}
-use Rattle.drafter.proofs.state.Core.fall.Goals as goal
+use Rattle.drafter.proofs.SignSet.{signed_long, full_within, fall_at}
+use Rattle.drafter.proofs.state.Core.remove_sign.Goals as goal
 
 pub clear_sign-requires : goal.clear_sign-requires
 clear_sign-requires c =
@@ -10,4 +10,4 @@ clear_sign-requires c =
 
 pub returns : goal.returns
 returns c =
-    fall_at c.args.self.now c.requires c.spot-naming.result c.spot-naming.ensures.is _ c.clear_sign.ensures
+    fall_at c.args.self.now c.requires c.location-naming.result c.location-naming.ensures.is _ c.clear_sign.ensures

@@ -1,14 +1,14 @@
 // Where the payloads of a draft stand in its buffer.
 ghost use Rattle.std.specs.Prelude.{◌≡◌, ℕ, ◌<◌, ◌≤◌, length};
 ghost use Rattle.wire.specs.Extents.{extent};
-ghost use Rattle.drafter.specs.Spots.{kind_in, size_at, spot_at};
+ghost use Rattle.drafter.specs.Locations.{kind_in, size_at, location_at};
 
 use layout::extent;
 use wire::{Kind, byte_at};
 
 // Where a payload starts, and the byte that names it.
 #[derive(Clone, Copy)]
-pub(crate) struct Spot {
+pub(crate) struct Location {
     pub(crate) naming: usize,
     pub(crate) at: usize,
 }
@@ -16,8 +16,8 @@ pub(crate) struct Spot {
 // A part of a buffer that gives way: its spot, how long it is, and the code of what follows it. It
 // is empty where a payload is added.
 #[derive(Clone, Copy)]
-pub(crate) struct Part {
-    pub(crate) spot: Spot,
+pub(crate) struct Region {
+    pub(crate) location: Location,
     pub(crate) size: usize,
     pub(crate) next: u8,
 }
@@ -41,32 +41,32 @@ fn extent_of(code: u8, rest: &[u8]) -> usize
 }
 
 // How long the payload at a spot is, with its next-payload byte.
-pub(crate) fn size_at(bytes: &[u8], spot: Spot) -> usize
-    requires { spot.at < length bytes.now }
-    ensures is { result ≡ size_at bytes.now spot }
+pub(crate) fn size_at(bytes: &[u8], location: Location) -> usize
+    requires { location.at < length bytes.now }
+    ensures is { result ≡ size_at bytes.now location }
     ensures small { result < 65541 }
 {
-    1 + extent_of(byte_at(bytes, spot.naming), &bytes[spot.at + 1..])
+    1 + extent_of(byte_at(bytes, location.naming), &bytes[location.at + 1..])
 }
 
-// The spot of the payload at a position, behind a header of so many bytes.
-#[tactic(auto, unfolding(crate::specs::Spots::spot_at))]
-pub(crate) fn find(bytes: &[u8], header: usize, position: usize) -> Spot
+// The spot of the payload at a position, after a header of so many bytes.
+#[tactic(auto, unfolding(crate::specs::Locations::location_at))]
+pub(crate) fn locate(bytes: &[u8], header: usize, position: usize) -> Location
     requires few { length bytes.now ≤ 8192 }
-    requires there { (i : ℕ) → i < position → (spot_at header i bytes.now).at < length bytes.now }
-    ensures { result ≡ spot_at header position bytes.now }
+    requires there { (i : ℕ) → i < position → (location_at header i bytes.now).at < length bytes.now }
+    ensures { result ≡ location_at header position bytes.now }
 {
-    let mut spot = Spot {
+    let mut location = Location {
         naming: 2,
         at: header,
     };
     // No index is counted here: the step is repeated. A fold's closure would want it shown at each
     // turn that the spot is inside.
     for _i in 0..position {
-        spot = Spot {
-            naming: spot.at,
-            at: spot.at + size_at(bytes, spot),
+        location = Location {
+            naming: location.at,
+            at: location.at + size_at(bytes, location),
         };
     }
-    spot
+    location
 }

@@ -4,34 +4,34 @@ use Rattle.std.specs.List.{AllByRecursion}
 use Rattle.wire.specs.Octets.{Octets}
 use Rattle.wire.specs.Messages.{Header}
 use Rattle.wire.specs.Lawful.{LawfulHeader, LawfulPayload, LawfulSign}
-use Rattle.plain.specs.Drafts.{Held, Sign, Draft, bytes_of, standing, encoded}
+use Rattle.plain.specs.Drafts.{Held, Sign, Draft, bytes_of, stage_sign, encoding_of}
 use Rattle.plain.specs.Edits.{Edit}
 use Rattle.plain.specs.Edits.Edit.{head, add, replace, remove}
 use Rattle.plain.specs.Steps.{Step}
 use Rattle.plain.specs.Steps.Step.{edit, close, sign, withdraw, release}
 
-abbrev pub HeaderKept : Option Header → Type 0
-HeaderKept None = Unit {0}
-HeaderKept (Some h) = LawfulHeader h
+abbrev pub LawfulHeldHeader : Option Header → Type 0
+LawfulHeldHeader None = Unit {0}
+LawfulHeldHeader (Some h) = LawfulHeader h
 
--- SIGN stands only behind a header
-abbrev pub SignKept : Option Header → Option Sign → Type 0
-SignKept h None = Unit {0}
-SignKept None (Some g) = ⊥
-SignKept (Some h) (Some g) = LawfulSign g.type g.signature
+-- SIGN stands only after a header
+abbrev pub LawfulHeldSign : Option Header → Option Sign → Type 0
+LawfulHeldSign h None = Unit {0}
+LawfulHeldSign None (Some g) = ⊥
+LawfulHeldSign (Some h) (Some g) = LawfulSign g.type g.signature
 
 -- the records but SIGN
-pub record Sound (counted : ℕ) (d : Held) : Type 0 where
-  pub header : HeaderKept d.header
+pub record LawfulHeld (counted : ℕ) (d : Held) : Type 0 where
+  pub header : LawfulHeldHeader d.header
   pub headed : d.header ≡ None → length d.payloads ≡ 0
   pub payloads : AllByRecursion LawfulPayload d.payloads
   pub few : length d.payloads < 24
   pub fits : length (bytes_of d.header d.payloads None) ≤ counted
 
-pub record Kept (counted : ℕ) (s : Draft) : Type 0 where
-  pub sound : Sound counted s.held
-  pub sign : SignKept s.held.header (standing s.stage)
-  pub fits : length (encoded s) ≤ counted
+pub record LawfulDraft (counted : ℕ) (s : Draft) : Type 0 where
+  pub sound : LawfulHeld counted s.held
+  pub sign : LawfulHeldSign s.held.header (stage_sign s.stage)
+  pub fits : length (encoding_of s) ≤ counted
 
 -- the arguments of a call are of their widths, as those of code always are
 abbrev pub EditWidths : Edit → Type 0
