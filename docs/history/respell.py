@@ -1,7 +1,7 @@
 #!/usr/bin/env python3
 """Spells the definitions, fields, constructors and lemmas of specs/ and proofs/ in snake case, and the facts among them in camel case.
 
-usage: python3 tools/respell.py [--list]      at the top of the repository, once, behind the kit's port.py
+usage: python3 docs/history/respell.py [--list]      at the top of the repository, once, behind the kit's port.py
 
 What turns: each name that a text of specs/ or proofs/ declares, wherever that text or a clause cites it. What stays: functions, types,
 labels and fields of src/, strings, the names that the checker makes (behind goal., c., w. and l., and in lists of Goals and Given), must-fail edits.
