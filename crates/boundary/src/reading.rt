@@ -73,8 +73,8 @@ fn read_bytes<P: Profile + Drop>(
     hand_out(outcome, &table, rows, count, header, span, place, detail)
 }
 
-// Tells the payloads of a message that the fixed profile of this number admits, and that a tag of
-// this key and the trust list pass, as walk_bytes tells them.
+/// Tells the payloads of a message that the fixed profile of this number admits, and that a tag of
+/// this key and the trust list pass, as walk_bytes tells them.
 pub fn read_fixed(
     message: &[u8],
     rows: &mut [u8],
@@ -97,7 +97,7 @@ pub fn read_fixed(
     )
 }
 
-// The same under the sheet that a text writes.
+/// The same under the sheet that a text writes.
 pub fn read_sheet(
     message: &[u8],
     rows: &mut [u8],

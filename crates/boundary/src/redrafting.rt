@@ -63,7 +63,7 @@ fn redraft_bytes<P: Profile + Drop>(
     }
 }
 
-// Drafts a message that read_fixed accepts again, in the buffer, and tells its length.
+/// Drafts a message that read_fixed accepts again, in the buffer, and tells its length.
 pub fn redraft_fixed(
     message: &[u8],
     profile: u32,
@@ -84,7 +84,7 @@ pub fn redraft_fixed(
     )
 }
 
-// Drafts a message that read_sheet accepts again.
+/// Drafts a message that read_sheet accepts again.
 pub fn redraft_sheet(
     message: &[u8],
     text: &[u8],

@@ -7,10 +7,10 @@ ghost use Rattle.boundary.specs.Hands.{numbers, Hands};
 use crate::fault::Fault;
 use wire::{MOST_PAYLOADS, Row, Walked};
 
-// How many bytes a row is.
+/// How many bytes a row is.
 pub const ROW_BYTES: usize = 6;
 
-// How many bytes a table of rows is.
+/// How many bytes a table of rows is.
 pub const TABLE_BYTES: usize = ROW_BYTES * MOST_PAYLOADS;
 
 // A number in 32 bits.

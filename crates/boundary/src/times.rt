@@ -5,7 +5,7 @@ ghost use Rattle.boundary.specs.Says.{TimeSays};
 use crate::rows::refuse;
 use walk::time;
 
-// Tells the seconds of a T payload. Returns 0, or the number of the refusal.
+/// Tells the seconds of a T payload. Returns 0, or the number of the refusal.
 pub fn time_bytes(payload: &[u8], seconds: &mut u64, place: &mut u32, detail: &mut u32) -> u32
     ensures { TimeSays payload.now (number seconds.old place.old detail.old)
         (number seconds.new place.new detail.new) result }

@@ -25,8 +25,8 @@ fn walk_table(
     Ok(walk(message, table)?)
 }
 
-// Tells the payloads of a message in the first 144 bytes of `rows`, six for each, and three
-// numbers; or why it is refused, in two others. Returns 0, or the number of the refusal.
+/// Tells the payloads of a message in the first 144 bytes of `rows`, six for each, and three
+/// numbers; or why it is refused, in two others. Returns 0, or the number of the refusal.
 pub fn walk_bytes(
     message: &[u8],
     rows: &mut [u8],

@@ -7,6 +7,7 @@ ghost use Rattle.boundary.specs.Says.{ReadSays};
 
 use boundary::{read_fixed, read_sheet};
 
+/// As `read` of the library, under a fixed profile by its number, a key tag and a trust list.
 #[unsafe(no_mangle)]
 pub extern "C" fn mikey_read_fixed(
     message: &[u8],
@@ -29,6 +30,7 @@ pub extern "C" fn mikey_read_fixed(
     )
 }
 
+/// As `read` of the library, under the text of a sheet, a key tag and a trust list.
 #[unsafe(no_mangle)]
 pub extern "C" fn mikey_read_sheet(
     message: &[u8],

@@ -7,6 +7,7 @@ ghost use Rattle.boundary.specs.Says.{RedraftSays};
 
 use boundary::{redraft_fixed, redraft_sheet};
 
+/// As `redraft` of the library, under what `mikey_read_fixed` reads under.
 #[unsafe(no_mangle)]
 pub extern "C" fn mikey_redraft_fixed(
     message: &[u8],
@@ -27,6 +28,7 @@ pub extern "C" fn mikey_redraft_fixed(
     )
 }
 
+/// As `redraft` of the library, under what `mikey_read_sheet` reads under.
 #[unsafe(no_mangle)]
 pub extern "C" fn mikey_redraft_sheet(
     message: &[u8],

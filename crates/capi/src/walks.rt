@@ -5,6 +5,8 @@ ghost use Rattle.boundary.specs.Says.{Says, TimeSays};
 
 use boundary::{time_bytes, walk_bytes};
 
+/// As `walk` of the library, over bytes: rows of six bytes each, and numbers; include/mikey.h says
+/// what each argument is.
 #[unsafe(no_mangle)]
 pub extern "C" fn mikey_walk(
     message: &[u8],
@@ -22,6 +24,7 @@ pub extern "C" fn mikey_walk(
     walk_bytes(message, rows, count, header, span, place, detail)
 }
 
+/// As `time` of the library: the seconds of a T payload.
 #[unsafe(no_mangle)]
 pub extern "C" fn mikey_time(
     payload: &[u8],

@@ -37,7 +37,8 @@ pub record RegionAt (c : Core) (position : ℕ) (region : Region) : Type 0 where
   pub location : region.location ≡ location_at c.header position (take c.end c.buffer.now)
   pub size : region.size ≡ size_in c position
   pub next : region.next ≡ next_in c position
-  pub within : (region.location.naming < region.location.at) × (region.location.at + region.size ≤ c.end)
+  pub within : (region.location.naming < region.location.at)
+      × (region.location.at + region.size ≤ c.end)
 
 -- what an edit at one of the first so many positions is refused for before all else
 abbrev pub position_answer : ℕ → ℕ → Core → Answer (Unit {0})

@@ -52,10 +52,12 @@ fn splice(buffer: &mut [u8], end: usize, at: usize, old: usize, front: &[u8], re
 
 // A payload in the place of a part.
 pub(crate) fn place(buffer: &mut [u8], end: usize, region: Region, code: u8, body: &[u8])
-    requires region { (region.location.at + region.size ≤ end) × (region.location.naming < length buffer.old) }
+    requires region { (region.location.at + region.size ≤ end)
+        × (region.location.naming < length buffer.old) }
     requires room { (end ≤ length buffer.old)
         × (end - region.size + (1 + length body.now) ≤ length buffer.old) }
-    ensures { IsPlaced end region.location region.size (region.next ∷ body.now) code buffer.old buffer.new }
+    ensures { IsPlaced end region.location region.size (region.next
+        ∷ body.now) code buffer.old buffer.new }
 {
     splice(
         buffer,
@@ -70,7 +72,8 @@ pub(crate) fn place(buffer: &mut [u8], end: usize, region: Region, code: u8, bod
 
 // A part goes, and what follows it is named in its place.
 pub(crate) fn delete(buffer: &mut [u8], end: usize, region: Region)
-    requires region { (region.location.at + region.size ≤ end) × (region.location.naming < length buffer.old) }
+    requires region { (region.location.at + region.size ≤ end)
+        × (region.location.naming < length buffer.old) }
     requires room { end ≤ length buffer.old }
     ensures { IsPlaced end region.location region.size [] region.next buffer.old buffer.new }
 {

@@ -53,7 +53,8 @@ pub(crate) fn size_at(bytes: &[u8], location: Location) -> usize
 #[tactic(auto, unfolding(crate::specs::Locations::location_at))]
 pub(crate) fn locate(bytes: &[u8], header: usize, position: usize) -> Location
     requires few { length bytes.now ≤ 8192 }
-    requires there { (i : ℕ) → i < position → (location_at header i bytes.now).at < length bytes.now }
+    requires there { (i : ℕ) → i < position
+        → (location_at header i bytes.now).at < length bytes.now }
     ensures { result ≡ location_at header position bytes.now }
 {
     let mut location = Location {

@@ -9,7 +9,7 @@ ghost use Rattle.drafter.specs.Signs.{OutDraft, out_stage};
 use crate::state::{Core, Outcome};
 use std::marker::Model;
 
-// Takes edits, and goes out by close.
+/// An open draft: it takes edits, and goes out by close.
 #[derive(Drop)]
 pub struct Open<'a> {
     pub(crate) core: Core<'a>,
@@ -23,7 +23,7 @@ impl<'a> Model for Open<'a> {
     ghost invariant = { λ d. IsEditable d.core };
 }
 
-// Takes signatures. It can't be let go: withdraw or release spends it.
+/// A draft that is out: it takes signatures. It can't be let go: withdraw or release spends it.
 pub struct Out<'a> {
     pub(crate) core: Core<'a>,
     pub(crate) outcome: Outcome,
@@ -37,7 +37,7 @@ impl<'a> Model for Out<'a> {
     ghost invariant = { λ d. OutDraft d.outcome d.core };
 }
 
-// A draft that was released. It takes no call.
+/// A draft that was released. It takes no call.
 #[derive(Drop)]
 pub struct Released<'a> {
     pub(crate) core: Core<'a>,

@@ -4,7 +4,7 @@ ghost use Rattle.plain.specs.Effects.{edit_reply, sign_reply};
 
 use wire::Refusal;
 
-// A header, as head is given it.
+/// A header, as head is given it.
 #[derive(Clone, Copy)]
 pub struct Head<'a> {
     pub byte3: u8,
@@ -14,8 +14,8 @@ pub struct Head<'a> {
     pub map_info: &'a [u8],
 }
 
-// A body is all of a payload after its next-payload byte. A code is a byte that may name no kind,
-// which is a refusal of its own.
+/// A call on a draft. A body is all of a payload after its next-payload byte. A code is a byte that
+/// may name no kind, which is a refusal of its own.
 #[derive_where(Clone, Copy)]
 pub enum Call<'a, P> {
     Head(Head<'a>),
@@ -42,8 +42,8 @@ pub enum Call<'a, P> {
     Release,
 }
 
-// A call that the state of the draft does not take is misplaced, which is neither an answer nor a
-// refusal: so this is no Result.
+/// What a call answers. One that the state of the draft does not take is misplaced, which is
+/// neither an answer nor a refusal: so this is no Result.
 #[derive(Clone, Copy, PartialEq, Eq, Debug)]
 pub enum Reply {
     Done,

@@ -152,7 +152,7 @@ impl<P: Profile> Admission<'_, P> {
     }
 }
 
-// Whether a profile admits a message, by its bytes and the rows that mark off its payloads.
+/// Whether a profile admits a message, by its bytes and the rows that mark off its payloads.
 pub fn admit<P: Profile>(profile: &P, message: &[u8], rows: &[Row]) -> Result<(), Refusal>
     ensures answer { result ≡ admit_answer (P.tables profile.now) message.now rows.now }
     // As it is told, and in the words of messages.

@@ -9,6 +9,8 @@ use crate::values::fixed_values;
 use std::fmt;
 use std::str::FromStr;
 
+/// A fixed profile: that of client-server keys, of private call keys, or of group keys
+/// (3GPP TS 33.180, annex E).
 #[derive(Clone, Copy, PartialEq, Eq, Debug)]
 pub enum Fixed {
     Csk,
@@ -16,7 +18,7 @@ pub enum Fixed {
     Gmk,
 }
 
-// A name that no fixed profile has.
+/// A name that no fixed profile has.
 #[derive(Clone, Copy, PartialEq, Eq, Debug)]
 pub struct UnknownProfile;
 

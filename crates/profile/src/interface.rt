@@ -2,15 +2,16 @@
 ghost use Rattle.std.specs.Prelude.{◌≡◌};
 ghost use Rattle.profile.specs.Tables.{Tables, bounds_of};
 
-// The least and the most count of a slot.
+/// The least and the most count of a slot.
 #[derive(Clone, Copy, PartialEq, Eq, Debug)]
 pub struct Bounds {
     pub least: u8,
     pub most: u8,
 }
 
-// Its meaning is three tables; asking gives the entry and alters nothing. It is asked for every
-// number from 0 to 255, so that fields and slots are numbers here and no enums.
+/// A profile says which values, payloads and orders a station takes. Its meaning is three tables;
+/// asking gives the entry and alters nothing. It is asked for every number from 0 to 255, so that
+/// fields and slots are numbers here and no enums.
 pub trait Profile {
     ghost tables: { Self → Tables };
 

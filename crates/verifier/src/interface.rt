@@ -2,8 +2,9 @@
 ghost use Rattle.std.specs.Prelude.{◌≡◌, Bool};
 ghost use Rattle.verifier.specs.Signed.{Triple, triple};
 
-// Its meaning is the set of what it passes; asking alters nothing. The three parts go as they stand
-// in a message: a struct of them would be made at each call only to be taken apart again.
+/// A verifier says whether it passes a signer, a span and a signature. Its meaning is the set of
+/// what it passes; asking alters nothing. The three parts go as they stand in a message: a struct
+/// of them would be made at each call only to be taken apart again.
 pub trait Verifier {
     ghost passing: { Self → Triple → Bool };
 

@@ -6,6 +6,8 @@ ghost use Rattle.verifier.specs.Tags.{tag_step, tag, tag_passes};
 use crate::compare::same_bytes;
 use crate::interface::Verifier;
 
+/// Passes the signature that is the eight bytes of a tag over signer and span, begun at a key. It
+/// protects nothing: whoever has the key can sign.
 #[derive(Clone, Copy)]
 pub struct KeyTag {
     pub key: u64,
@@ -32,7 +34,7 @@ fn tag_over(key: u64, signer: &[u8], span: &[u8]) -> u64
 }
 
 impl KeyTag {
-    // The signature that this key gives.
+    /// The signature that this key gives: the tag's eight bytes, the highest first.
     pub fn sign(&self, signer: &[u8], span: &[u8]) -> [u8; 8]
         ensures { result ≡ in_bytes 8 (tag self.now.key (signer.now ++ span.now)) }
     {

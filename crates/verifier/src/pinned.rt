@@ -4,6 +4,7 @@ ghost use Rattle.verifier.specs.Pinned.{pinned_passes};
 use crate::compare::{same_bytes, same_identity};
 use crate::interface::Verifier;
 
+/// Passes one stored signer, span and signature, and nothing else.
 #[derive(Clone, Copy)]
 pub struct Pinned<'a> {
     pub signer: &'a [u8],

@@ -6,7 +6,11 @@ use wire::Refusal;
 // A T payload with its next-payload byte.
 const LENGTH: usize = 10;
 
-// Seconds since 0h on 1 January 1900, of a T payload as lookup hands it out.
+/// The TS value of a T payload (RFC 3830, 6.6), as lookup hands the payload out: seconds since 0h on
+/// 1 January 1900.
+///
+/// It refuses, in this order and at place 0, what is shorter than ten bytes (11), a TS type that is
+/// not 0 (12), and what is longer (13).
 pub fn time(payload: &[u8]) -> Result<u64, Refusal>
     ensures { ReadsTime payload.now result }
 {

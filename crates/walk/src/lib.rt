@@ -16,8 +16,8 @@ pub use prefix::{WalkedPrefix, walk_prefix};
 pub use table::walk_table;
 use wire::{MOST_PAYLOADS, Refusal, Row, Walked};
 
-// Tells the payloads of a message in the first 24 rows, blank after the last, and three numbers.
-// Where it refuses, the rows are as they were.
+/// Tells the payloads of a message in the first 24 rows, blank after the last, and three numbers.
+/// Where it refuses, the rows are as they were.
 pub fn walk(message: &[u8], rows: &mut [Row]) -> Result<Walked, Refusal>
     ensures { Walks message.now rows.old result rows.new }
 {

@@ -6,14 +6,14 @@ ghost use Rattle.walk.specs.Parts.{LooksUp};
 
 use wire::{Refusal, Row, Slot};
 
-// Some bytes of a message, and where they begin.
+/// Some bytes of a message, and where they begin.
 #[derive(Clone, Copy)]
 pub struct Part<'a> {
     pub bytes: &'a [u8],
     pub place: usize,
 }
 
-// The part of the message that a row marks off.
+/// The part of the message that a row marks off, or 26 where the row does not lie inside.
 pub fn lookup<'a>(message: &'a [u8], row: &Row) -> Result<Part<'a>, Refusal>
     ensures { LooksUp message.now row.now result }
 {

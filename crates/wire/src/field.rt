@@ -7,6 +7,7 @@ ghost use Rattle.wire.specs.Texts.{field_words};
 use crate::number::UnknownNumber;
 use std::fmt;
 
+/// A field of a message that a profile is asked about, by its number.
 #[derive(Clone, Copy, PartialEq, Eq, Debug)]
 pub enum Field {
     Version = 1,

@@ -5,6 +5,7 @@ ghost use Rattle.wire.specs.Numbered.{Names};
 
 use crate::number::UnknownNumber;
 
+/// A kind of payload, by its code (RFC 3830, 6.1; RFC 6043 for IDR; RFC 6509 for SAKKE).
 #[derive(Clone, Copy, PartialEq, Eq, Debug)]
 pub enum Kind {
     T = 5,
@@ -17,8 +18,7 @@ pub enum Kind {
 }
 
 impl Kind {
-    // The kind that a code names; none for an unknown code, 0 among them. The conversion below is
-    // made by it.
+    /// The kind that a code names; none for an unknown code, 0 among them.
     pub fn of(code: u8) -> Option<Kind>
         ensures { result ≡ kind_of code }
     {
@@ -34,7 +34,7 @@ impl Kind {
         }
     }
 
-    // The code that names it.
+    /// The code that names it.
     pub const fn code(self) -> u8
         ensures { result ≡ code_of self }
     {

@@ -4,7 +4,7 @@ ghost use Rattle.wire.specs.Texts.{unknown_number_text};
 
 use std::fmt;
 
-// A number that stands for nothing there is.
+/// A number that stands for nothing there is.
 #[derive(Clone, Copy, PartialEq, Eq, Debug)]
 pub struct UnknownNumber {
     pub number: u8,

@@ -6,6 +6,8 @@ ghost use Rattle.wire.specs.Texts.{row_text, walked_text};
 use std::fmt;
 use std::ops::Range;
 
+/// A payload of a message: its code, its slot, the byte where it starts, and its length in bytes
+/// with the next-payload byte.
 #[derive(Clone, Copy, PartialEq, Eq, Debug)]
 pub struct Row {
     pub code: u8,
@@ -15,7 +17,7 @@ pub struct Row {
 }
 
 impl Row {
-    // A row after the last payload.
+    /// A row after the last payload.
     pub const BLANK: Row = Row {
         code: 0,
         slot: 0,
@@ -23,7 +25,7 @@ impl Row {
         length: 0,
     };
 
-    // Where the payload lies in its message.
+    /// Where the payload lies in its message.
     pub fn range(&self) -> Range<usize>
         ensures start { result.start ≡ self.now.start }
         ensures end { result.end ≡ self.now.start + self.now.length }
@@ -46,8 +48,8 @@ impl fmt::Display for Row {
     }
 }
 
-// The number of payloads with SIGN, the length of the header, and that of the span: all before the
-// signature.
+/// The number of payloads with SIGN, the length of the header, and that of the span: all before the
+/// signature.
 #[derive(Clone, Copy, PartialEq, Eq, Debug)]
 pub struct Walked {
     pub count: usize,

@@ -8,7 +8,7 @@ ghost use Rattle.wire.specs.Texts.{slot_words};
 use crate::number::UnknownNumber;
 use std::fmt;
 
-// By the kind, the role of an IDR and the type of an EXT. Any other role or type is in the last.
+/// By the kind, the role of an IDR and the type of an EXT. Any other role or type is in the last.
 #[derive(Clone, Copy, PartialEq, Eq, Debug)]
 pub enum Slot {
     T = 1,
