@@ -227,7 +227,13 @@ impl PlainDraft {
         }
     }
 
-    fn is_open(&self) -> bool {
+    /// The records held.
+    pub fn message(&self) -> &Message {
+        &self.message
+    }
+
+    /// Whether it takes edits; else it takes signatures, or it has ended.
+    pub fn is_open(&self) -> bool {
         matches!(self.stage, Stage::Open)
     }
 

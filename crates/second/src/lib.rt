@@ -1,5 +1,5 @@
-// A second, independent decoder of MIKEY-SAKKE I_MESSAGEs, with the profiles, the key tag, an
-// encoder and a plain draft. It was written from the pages docs/FORMAT.md, docs/REFUSALS.md,
+// A second, independent decoder of MIKEY-SAKKE I_MESSAGEs, with the profiles, the key tag, the
+// trust list, an encoder and a plain draft. It was written from the pages docs/FORMAT.md, docs/REFUSALS.md,
 // docs/PROFILES.md and docs/DRAFTS.md alone, by somebody who had seen no other decoder of this
 // repository, and it shares no code with one. Where the two answer differently, a page can be read
 // in two ways, or one of them is wrong. It keeps what it reads in vectors and walks over the rest
@@ -22,6 +22,7 @@ mod rules;
 mod sessions;
 mod sheet;
 mod slots;
+mod trust;
 mod walk;
 
 pub use encoding::encode;
@@ -30,6 +31,7 @@ pub use judging::judge;
 pub use key_tag::{check_tag, tag};
 pub use message::{Decoded, Message, Payload, Row};
 pub use parts::{part, time};
-pub use rules::Rules;
+pub use rules::{Field, Limits, Rules};
 pub use sheet::Sheet;
+pub use trust::TrustList;
 pub use walk::decode;
