@@ -1,6 +1,6 @@
 // Profiles, sheets and the key tag.
 use crate::decoding::EACH_KIND;
-use second::{Fault, Rules, Sheet, check_tag, decode, judge, tag};
+use second::{Failed, Fault, Rules, Sheet, TrustList, check_tag, decode, judge, tag};
 use std::test::Fail;
 
 const KIND_SHEET: &str =
@@ -81,4 +81,28 @@ fn refuses_sheets(rt: HostRuntime) {
         );
     }
     assert!(rt; Sheet::parse(b"slot least most rank\n").is_ok());
+}
+
+/// Whether a refusal of this number is told, or none where it is 0.
+fn is_told(told: Result<(), Failed>, number: u8) -> bool {
+    match told {
+        Ok(()) => number == 0,
+        Err(Failed::Refused(fault)) => fault == Fault::of(number),
+        Err(Failed::Memory(_)) => false,
+    }
+}
+
+/// Signers that a trust list takes: of 1 to 128 bytes, one that is there also when the list is full.
+#[test]
+fn enters_signers(rt: HostRuntime) {
+    let mut list = TrustList::new(rt.alloc());
+    assert!(rt; is_told(list.enter(&[]), 27));
+    assert!(rt; is_told(list.enter(&[0; 129]), 27));
+    assert!(rt; is_told(list.enter(&[0; 128]), 0));
+    for signer in [b"1", b"2", b"3", b"4", b"5", b"6", b"7"] {
+        assert!(rt; is_told(list.enter(signer), 0));
+    }
+    assert!(rt; is_told(list.enter(b"8"), 28));
+    assert!(rt; is_told(list.enter(b"7"), 0));
+    assert!(rt; list.lists(b"7") && !list.lists(b"8") && !list.lists(&[]));
 }
