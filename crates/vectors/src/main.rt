@@ -1,72 +1,109 @@
-// Runs vectors through the library and through a second decoder that was made without it, and tells
-// where the two differ.
+// Runs the corpus, and what is computed from it, through the library and through a second decoder that was
+// made without it, and tells where the two or the corpus differ.
 #![tactic(auto)]
 
-mod answers;
-mod beside;
-mod body;
-mod build;
-mod by_hand;
-mod bytes;
-mod compare;
-mod draft_bodies;
-mod draft_calls;
-mod draft_delivered;
-mod draft_families;
-mod draft_generator;
-mod draft_heads;
-mod draft_ours;
-mod draft_plan;
-mod draft_plans;
-mod draft_profiles;
-mod draft_report;
-mod draft_seconds;
-mod draft_typed;
 mod drafts;
-mod edges;
-mod edges_codes;
-mod edges_fields;
-mod edges_header;
-mod edges_lengths;
-mod edges_rules;
-mod edges_sessions;
-mod edges_slots;
 mod everything;
-mod family;
-mod keys;
-mod messages;
-mod named;
+mod families;
+mod generator;
+mod library;
+mod lists;
 mod orders;
-mod ours;
-mod outcome;
-mod sheets;
-mod slots;
-mod station;
-mod table;
+mod plans;
+mod records;
+mod report;
+mod systematic;
 mod tally;
-mod totals;
+mod tests;
+mod variants;
+mod vector;
 
-use std::io;
-use totals::Totals;
+use corpus::{Group, Kind, bytes, groups};
+use drafts::Drafts;
+use families::{Others, drafts_of, named, records, systematic};
+use plans::families;
+use report::Report;
+use serde_json::Value;
+use std::fs;
+use tally::Tally;
+use tests::{run_draft, run_test};
 
-fn run(rt: &HostRuntime, totals: &mut Totals) -> io::Result<()> {
-    messages::run(rt, totals)?;
-    by_hand::run(rt, totals)?;
-    edges_header::run(rt, totals)?;
-    edges_sessions::run(rt, totals)?;
-    edges_lengths::run(rt, totals)?;
-    edges_rules::run(rt, totals)?;
-    edges_codes::run(rt, totals)?;
-    edges_fields::run(rt, totals)?;
-    edges_slots::run(rt, totals)?;
-    answers::run(rt, totals)?;
-    sheets::run(rt, totals)
+const FILES: [&str; 6] = [
+    "walk.json",
+    "read.json",
+    "sheets.json",
+    "times.json",
+    "identities.json",
+    "drafts.json",
+];
+
+fn file(rt: &HostRuntime, name: &str) -> anyhow::Result<Value> {
+    Ok(Value::from_slice(rt.alloc(), &fs::read(rt, name)?)?)
+}
+
+fn run_group(
+    rt: &HostRuntime,
+    tally: &mut Tally,
+    drafts: &mut Drafts,
+    group: &Group<'_>,
+) -> anyhow::Result<()> {
+    for test in group.tests {
+        if group.kind == Kind::Draft {
+            run_draft(rt.alloc(), drafts, test)?;
+        } else if let Some(line) = run_test(rt.alloc(), tally, group, test)? {
+            println!(rt; "{line}")?;
+        }
+    }
+    Ok(())
+}
+
+// The tests of a file.
+fn run_file(report: &mut Report<'_>, name: &str) -> anyhow::Result<()> {
+    let rt = report.rt;
+    let file = file(rt, name)?;
+    let mut tally = Tally::new(rt.alloc());
+    let mut drafts = Drafts::new(rt.alloc());
+    for group in &groups(rt.alloc(), &file)? {
+        run_group(rt, &mut tally, &mut drafts, group)?;
+    }
+    if drafts.lists > 0 {
+        report.drafts(name, &drafts)?;
+    } else {
+        report.family(name, &tally)?;
+    }
+    Ok(())
+}
+
+// What is computed from the messages of the corpus.
+fn computed(report: &mut Report<'_>) -> anyhow::Result<()> {
+    let rt = report.rt;
+    let (walk, read) = (file(rt, "walk.json")?, file(rt, "read.json")?);
+    let mut found = Vec::new(rt.alloc());
+    let mut others = Others::new(rt.alloc());
+    for file in [&walk, &read] {
+        for group in &groups(rt.alloc(), file)? {
+            if matches!(group.kind, Kind::Walk | Kind::Read) && group.rows == 24 {
+                named(report, group)?;
+                others.group(rt.alloc(), group)?;
+                records(rt.alloc(), &mut found, group)?;
+            }
+        }
+    }
+    others.tell(report)?;
+    systematic(report, &found)?;
+    for family in &families() {
+        drafts_of(report, family, &found)?;
+    }
+    Ok(())
 }
 
 fn main(rt: HostRuntime) -> anyhow::Result<()> {
-    let mut totals = Totals::NONE;
-    run(&rt, &mut totals)?;
-    drafts::run(&rt, &mut totals)?;
-    totals.tell(&rt)?;
+    let totals = Tally::new(rt.alloc());
+    let mut report = Report { rt: &rt, totals };
+    for name in FILES {
+        run_file(&mut report, name)?;
+    }
+    computed(&mut report)?;
+    report.end()?;
     Ok(())
 }

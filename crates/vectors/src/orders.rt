@@ -1,36 +1,34 @@
-// Each named message with its payloads in other orders, or one of them left out or there twice.
-use crate::build::{Message, Payload};
-use crate::compare::{LENT, Vector};
-use crate::family::Family;
-use crate::station::{KEY, Station};
-use crate::totals::Totals;
-use std::io;
+// A message with its payloads in other orders, or one of them left out or there twice; signed anew each time.
+use crate::records::{arranged, signed};
+use crate::tally::Tally;
+use crate::vector::run;
+use corpus::Station;
+use second::Message;
+use std::alloc::{AllocError, Global};
 
-// A message whose payloads are put in orders, and the station that reads it in each.
+// The records of a message, and the station that reads its variants.
 #[derive(Clone, Copy)]
-pub struct Variants<'a> {
-    pub rt: &'a HostRuntime,
-    pub name: &'a str,
+pub struct Orders<'a> {
     pub message: &'a Message,
-    pub station: Option<&'a Station>,
+    pub station: &'a Station,
 }
 
-impl Variants<'_> {
-    fn run(&self, family: &mut Family<'_>, order: &[&Payload]) -> io::Result<()> {
-        let bytes = self.message.signed(self.rt.alloc(), order, KEY)?;
-        family.run(&Vector {
-            bytes: &bytes,
-            lent: LENT,
-            station: self.station,
-        })?;
-        Ok(())
+fn places(alloc: Global, count: usize) -> Result<Vec<usize>, AllocError> {
+    (0..count).collect(alloc)
+}
+
+impl Orders<'_> {
+    fn run(&self, alloc: Global, tally: &mut Tally, order: &[usize]) -> Result<(), AllocError> {
+        let message = arranged(alloc, self.message, order)?;
+        let bytes = signed(alloc, &message, self.station.key)?;
+        run(alloc, tally, &bytes, Some(self.station))
     }
 
     // Begun with each payload in turn.
-    fn rotated(&self, family: &mut Family<'_>) -> io::Result<()> {
-        let mut order = self.message.order(self.rt.alloc())?;
-        for _i in 0..order.len() {
-            self.run(family, &order)?;
+    fn rotated(&self, alloc: Global, tally: &mut Tally) -> Result<(), AllocError> {
+        let mut order = places(alloc, self.message.payloads.len())?;
+        for _ in 0..self.message.payloads.len() {
+            self.run(alloc, tally, &order)?;
             if !order.is_empty() {
                 order.rotate_left(1);
             }
@@ -39,47 +37,37 @@ impl Variants<'_> {
     }
 
     // With one payload and the next in each other's place.
-    fn swapped(&self, family: &mut Family<'_>) -> io::Result<()> {
+    fn swapped(&self, alloc: Global, tally: &mut Tally) -> Result<(), AllocError> {
         for i in 1..self.message.payloads.len() {
-            let mut order = self.message.order(self.rt.alloc())?;
+            let mut order = places(alloc, self.message.payloads.len())?;
             if i < order.len() {
                 order.swap(i - 1, i);
             }
-            self.run(family, &order)?;
+            self.run(alloc, tally, &order)?;
         }
         Ok(())
     }
 
-    fn reversed(&self, family: &mut Family<'_>) -> io::Result<()> {
-        let mut order = self.message.order(self.rt.alloc())?;
+    pub fn orders(&self, alloc: Global, tally: &mut Tally) -> Result<(), AllocError> {
+        self.rotated(alloc, tally)?;
+        self.swapped(alloc, tally)?;
+        let mut order = places(alloc, self.message.payloads.len())?;
         order.reverse();
-        self.run(family, &order)
-    }
-
-    pub fn orders(&self, totals: &mut Totals) -> io::Result<()> {
-        let mut family = Family::of(self.rt, "other orders of the payloads: ", self.name);
-        self.rotated(&mut family)?;
-        self.swapped(&mut family)?;
-        self.reversed(&mut family)?;
-        family.end(totals)
+        self.run(alloc, tally, &order)
     }
 
     // Without each payload in turn, and with it twice.
-    pub fn counts(&self, totals: &mut Totals) -> io::Result<()> {
-        let mut family = Family::of(self.rt, "a payload left out or twice: ", self.name);
-        let alloc = self.rt.alloc();
+    pub fn counts(&self, alloc: Global, tally: &mut Tally) -> Result<(), AllocError> {
         for i in 0..self.message.payloads.len() {
-            let mut fewer = self.message.order(alloc)?;
-            let mut more = self.message.order(alloc)?;
+            let mut fewer = places(alloc, self.message.payloads.len())?;
+            let mut more = places(alloc, self.message.payloads.len())?;
             if i < fewer.len() {
                 fewer.remove(i);
             }
-            if let Some(payload) = self.message.payloads.get(i) {
-                more.push(payload)?;
-            }
-            self.run(&mut family, &fewer)?;
-            self.run(&mut family, &more)?;
+            more.push(i)?;
+            self.run(alloc, tally, &fewer)?;
+            self.run(alloc, tally, &more)?;
         }
-        family.end(totals)
+        Ok(())
     }
 }

@@ -1,66 +1,90 @@
-// How many vectors of a family came out in each way.
-use crate::outcome::Outcome;
-use crate::totals::Totals;
-use std::fmt::{self, Display};
+// How vectors came out.
+use corpus::Answer;
+use std::alloc::{AllocError, Global};
+use std::fmt;
 
-#[derive(Clone, Copy)]
+// How many differences of a family are told with their bytes. The others are only counted.
+const TOLD: usize = 4;
+
+#[derive(Drop)]
 pub struct Tally {
-    vectors: u64,
-    agreed: u64,
-    taken: u64,
-    refused: [u64; 32],
+    pub vectors: u64,
+    pub agreed: u64,
+    pub taken: u64,
+    // How often each refusal was told.
+    pub refused: [u64; 32],
+    // The first differences, each a line.
+    pub differences: Vec<String>,
+}
+
+fn up(count: &mut u64, by: u64) {
+    *count = count.saturating_add(by);
 }
 
 impl Tally {
-    pub const NONE: Tally = Tally {
-        vectors: 0,
-        agreed: 0,
-        taken: 0,
-        refused: [0; 32],
-    };
-
-    pub fn take(&mut self) {
-        self.taken = self.taken.saturating_add(1);
-    }
-
-    pub fn refuse(&mut self, number: u8) {
-        if let Some(count) = self.refused.get_mut(usize::from(number)) {
-            *count = count.saturating_add(1);
+    pub fn new(alloc: Global) -> Tally {
+        Tally {
+            vectors: 0,
+            agreed: 0,
+            taken: 0,
+            refused: [0; 32],
+            differences: Vec::new(alloc),
         }
     }
 
-    pub fn count(&mut self, outcome: &Outcome) {
-        match outcome {
-            Outcome::Taken(_) => self.take(),
-            Outcome::Refused(told) => self.refuse(told.number),
-            Outcome::Unlawful => {}
+    // An answer by its number, 0 where it takes.
+    pub fn count(&mut self, number: u8, agrees: bool) {
+        up(&mut self.vectors, 1);
+        if agrees {
+            up(&mut self.agreed, 1);
+        }
+        if number == 0 {
+            up(&mut self.taken, 1);
+        } else if let Some(count) = self.refused.get_mut(usize::from(number)) {
+            up(count, 1);
         }
     }
 
-    // One vector more.
-    pub fn run(&mut self, agree: bool) {
-        self.vectors = self.vectors.saturating_add(1);
-        if agree {
-            self.agreed = self.agreed.saturating_add(1);
+    // An answer of ours and one of the second decoder to these bytes, and whether what they have beside
+    // their answers is the same.
+    pub fn compare(
+        &mut self,
+        alloc: Global,
+        ours: &Answer,
+        theirs: &Answer,
+        alike: bool,
+        bytes: &[u8],
+    ) -> Result<(), AllocError> {
+        let agrees = alike && ours == theirs;
+        self.count(theirs.number(), agrees);
+        if agrees || self.differences.len() >= TOLD {
+            return Ok(());
         }
+        let spelled = hex::encode(alloc, bytes)?;
+        self.tell(format!(in alloc; "ours {ours}, second {theirs}, alike {alike}: {spelled}")?)
     }
 
-    // On how many vectors the two differ.
-    pub fn differences(&self) -> u64 {
-        self.vectors.saturating_sub(self.agreed)
+    // A difference, if not enough are told already.
+    pub fn tell(&mut self, line: String) -> Result<(), AllocError> {
+        if self.differences.len() < TOLD {
+            self.differences.push(line)?;
+        }
+        Ok(())
     }
 
-    pub fn into_totals(self, totals: &mut Totals) {
-        totals.ran(self.vectors);
-        totals.agreed(self.agreed);
-        for (number, count) in (0..=31).zip(self.refused) {
-            totals.refusals(number, count);
+    // With the vectors of another one.
+    pub fn gather(&mut self, other: &Tally) {
+        up(&mut self.vectors, other.vectors);
+        up(&mut self.agreed, other.agreed);
+        up(&mut self.taken, other.taken);
+        for (count, more) in self.refused.iter_mut().zip(other.refused) {
+            up(count, more);
         }
     }
 }
 
-// As `NUMBER:COUNT` for each refusal that occurred.
-impl Display for Tally {
+// With `NUMBER:COUNT` for each refusal that occurred.
+impl fmt::Display for Tally {
     fn fmt<W: fmt::Write>(&self, f: &mut fmt::Formatter<W>) -> fmt::Result {
         write!(f, "{} run, {} taken", self.vectors, self.taken)?;
         for (number, count) in self.refused.iter().enumerate() {

@@ -25,19 +25,13 @@ impl Generator {
         first
     }
 
-    pub fn word(&mut self) -> u32 {
-        let [a, b, c, d, ..] = self.step().to_be_bytes();
-        u32::from_be_bytes([a, b, c, d])
-    }
-
     // A number below a bound; 0 if the bound is 0.
     pub fn below(&mut self, bound: usize) -> usize
         ensures { result ≤ bound }
     {
-        if bound == 0 {
-            return 0;
-        }
-        self.word() as usize % bound
+        let [a, b, c, d, ..] = self.step().to_be_bytes();
+        let word = u32::from_be_bytes([a, b, c, d]);
+        (word as usize).checked_rem(bound).unwrap_or(0)
     }
 
     // True so many times in a hundred.
@@ -49,5 +43,18 @@ impl Generator {
     pub fn one_of<T: Copy>(&mut self, items: &[T], other: T) -> T {
         let at = self.below(items.len());
         items.get(at).copied().unwrap_or(other)
+    }
+
+    // A place in a table of weights, which add up to 100.
+    pub fn weighted(&mut self, weights: &[u8]) -> usize {
+        let mut left = self.below(100);
+        for (place, weight) in weights.iter().enumerate() {
+            let weight = usize::from(*weight);
+            if left < weight {
+                return place;
+            }
+            left -= weight;
+        }
+        weights.len()
     }
 }
