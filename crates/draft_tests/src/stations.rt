@@ -3,6 +3,7 @@ use drafter::Open;
 use plain::Head;
 use profile::{Sheet, SheetRefusal};
 use verifier::KeyTag;
+use wire::Refusal;
 
 pub(crate) const KEY: KeyTag = KeyTag { key: 0 };
 
