@@ -101,7 +101,7 @@ pub record Requests (words : Lent) (r : Option Request) : Type 0 where
 
 -- what a line asks for; nothing where its words are no call
 abbrev pub Asks : List ℕ → Option Request → Type 0
-Asks text r = (words : Lent) × Words 7 text (texts words) × Requests words r
+Asks text r = (words : Lent) × Words [] 7 text (texts words) × Requests words r
 
 -- the bytes that a call is given, as they are spelled; a call that is given none is as one that
 -- is given `-`

@@ -18,6 +18,11 @@ Tells asked (Ok bytes) answer =
     × (read.length ≡ length bytes)
 Tells asked (Err why) answer = answer ≡ Err why
 
+-- what a line asks for, the scratch before and after its bytes are read, and the answer
+pub record ReadsBytes (r : Request) (before after : List ℕ) (answer : Result ReadLine LineError) : Type 0 where
+  pub tells : Tells (Some r) (bytes_of (length before) (Some r)) answer
+  pub scratch : after ≡ written_over before (bytes_of (length before) (Some r))
+
 -- a line, the scratch before and after, and the answer
 pub record Reads (text before after : List ℕ) (answer : Result ReadLine LineError) : Type 0 where
   pub asked : Option Request

@@ -61,8 +61,9 @@ pub enum Line<'a> {
 }
 
 impl<'a> Line<'a> {
-    // The bytes that its call is given, as they are spelled; `-` for a call that is given none.
-    pub(crate) fn spelled(&self) -> &'a str
+    /// The bytes that its call is given, as they are spelled: two digits each. `-` for a call that
+    /// is given none.
+    pub fn spelled(&self) -> &'a str
         ensures { result.now ≡ spelled_in (request self.now) }
     {
         match *self {
@@ -122,7 +123,8 @@ fn line_of<'a>(words: &[&'a str]) -> Option<Line<'a>>
     })
 }
 
-/// What a line asks for. None where it is no call. A comment may stand after the last word.
+/// What a line asks for. None where it is no call. A comment may stand alone, or after the last
+/// argument of a call; in the place of an argument it is that argument.
 pub fn parse(text: &str) -> Option<Line<'_>>
     ensures { Asks text.now (option_map request result) }
 {

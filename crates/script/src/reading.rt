@@ -1,5 +1,6 @@
 // A line of the script, read with its bytes.
-ghost use Rattle.script.specs.Reads.{Reads};
+ghost use Rattle.script.specs.Lines.{request};
+ghost use Rattle.script.specs.Reads.{Reads, ReadsBytes};
 
 use crate::decoding::decode;
 use crate::line::{Line, parse};
@@ -24,12 +25,23 @@ pub struct ReadLine<'a> {
     pub length: usize,
 }
 
+impl<'a> Line<'a> {
+    /// Reads the bytes of a line that is parsed: they are written at the front of the scratch.
+    /// The rest of the scratch stays as it was, and all of it where the line is not read: where it
+    /// is too short, or else where the bytes are not spelled in pairs of hexadecimal digits.
+    pub fn read(self, scratch: &mut [u8]) -> Result<ReadLine<'a>, LineError>
+        ensures { ReadsBytes (request self.entry) scratch.old scratch.new result }
+    {
+        let length = decode(self.spelled(), scratch)?;
+        Ok(ReadLine { line: self, length })
+    }
+}
+
 /// Reads a line: what it asks for, and its bytes, which are written at the front of the scratch.
 /// The rest of the scratch stays as it was, and all of it where the line is not read.
 pub fn read<'a>(text: &'a str, scratch: &mut [u8]) -> Result<ReadLine<'a>, LineError>
     ensures { Reads text.now scratch.old scratch.new result }
 {
     let line = parse(text).ok_or(LineError::NoCall)?;
-    let length = decode(line.spelled(), scratch)?;
-    Ok(ReadLine { line, length })
+    line.read(scratch)
 }

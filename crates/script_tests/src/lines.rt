@@ -43,7 +43,63 @@ fn a_line_is_one_call_or_blank(rt: HostRuntime) {
     assert!(rt; parse("Release").is_none());
     assert!(rt; parse("release#").is_none());
     assert!(rt; parse("sign").is_none());
-    assert!(rt; parse("sign #aa").is_none());
     assert!(rt; parse("head 1 2 3 4 5 6").is_none());
     assert!(rt; parse("head 1 0x100000000 3 4 -").is_none());
+}
+
+#[test]
+fn bytes_as_a_line_spells_them(rt: HostRuntime) {
+    let spelled = |text| parse(text).map(|line| line.spelled());
+    assert_eq!(rt; spelled("head 1 2 3 4 0a0B"), Some("0a0B"));
+    assert_eq!(rt; spelled("add 0 11 00 # a T"), Some("00"));
+    assert_eq!(rt; spelled("replace 0 11 0102"), Some("0102"));
+    assert_eq!(rt; spelled("sign zz"), Some("zz"));
+    for text in [
+        "",
+        "begin 8 0",
+        "remove 1",
+        "close csk 2 4",
+        "withdraw",
+        "release",
+    ] {
+        assert_eq!(rt; spelled(text), Some("-"));
+    }
+}
+
+#[test]
+fn a_comment_stands_after_the_last_argument(rt: HostRuntime) {
+    assert!(rt; matches!(parse("sign #aa"), Some(Line::Sign("#aa"))));
+    assert!(rt; matches!(parse("sign #aa # 0b"), Some(Line::Sign("#aa"))));
+    assert!(rt; matches!(parse("sign 0a #b c"), Some(Line::Sign("0a"))));
+    assert!(rt; parse("sign # 0a").is_none());
+    assert!(rt;
+        matches!(
+            parse("add 0 11 #"),
+            Some(Line::Add {
+                position: 0,
+                code: 11,
+                body: "#"
+            })
+        )
+    );
+    assert!(rt;
+        matches!(
+            parse("close #csk 2 4 #now"),
+            Some(Line::Close {
+                profile: "#csk",
+                sign_type: 2,
+                length: 4
+            })
+        )
+    );
+    assert!(rt;
+        matches!(
+            parse("head 1 2 3 4 #5 #6"),
+            Some(Line::Head { map_info: "#5", .. })
+        )
+    );
+    assert!(rt; parse("remove #1").is_none());
+    assert!(rt; parse("begin 8 #0").is_none());
+    assert!(rt; parse("add 0 11 # 00").is_none());
+    assert!(rt; parse("wait #for it").is_none());
 }

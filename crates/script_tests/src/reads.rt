@@ -1,7 +1,7 @@
 // The call of a line with its bytes, and what the reading leaves of the scratch.
 use plain::{Call, Head};
 use profile::Fixed;
-use script::{LineError, read};
+use script::{LineError, parse, read};
 
 // What a reading into a scratch of four bytes gives: how many bytes, and the scratch afterwards.
 fn reading(text: &str) -> (Result<usize, LineError>, [u8; 4]) {
@@ -27,11 +27,33 @@ fn bytes_stand_at_the_front_of_the_scratch(rt: HostRuntime) {
     assert_eq!(rt; reading(""), (Ok(0), [0xe0, 0xe1, 0xe2, 0xe3]));
 }
 
+// A line that was parsed before is read as its text is.
+#[test]
+fn bytes_of_a_parsed_line(rt: HostRuntime) {
+    let mut scratch = [0xe0, 0xe1, 0xe2, 0xe3];
+    let line = parse("add 0 11 0aB0 # a T").expect(&rt, "a call");
+    assert_eq!(rt; line.read(&mut scratch).map(|read| read.length), Ok(2));
+    assert_eq!(rt; scratch, [0x0a, 0xb0, 0xe2, 0xe3]);
+    let mut short = [0xe4];
+    assert_eq!(rt;
+        line.read(&mut short).map(|read| read.length),
+        Err(LineError::NoRoom)
+    );
+    assert_eq!(rt; short, [0xe4]);
+    let wrong = parse("sign 0g").expect(&rt, "a call");
+    assert_eq!(rt;
+        wrong.read(&mut scratch).map(|read| read.length),
+        Err(LineError::Spelling)
+    );
+    assert_eq!(rt; scratch, [0x0a, 0xb0, 0xe2, 0xe3]);
+}
+
 #[test]
 fn a_line_that_is_not_read_leaves_the_scratch(rt: HostRuntime) {
     let untouched = [0xe0, 0xe1, 0xe2, 0xe3];
     assert_eq!(rt; reading("sing 0a"), (Err(LineError::NoCall), untouched));
     assert_eq!(rt; reading("sign 0a0"), (Err(LineError::Spelling), untouched));
+    assert_eq!(rt; reading("sign #0a"), (Err(LineError::Spelling), untouched));
     assert_eq!(rt;
         reading("sign 0a0b0g"),
         (Err(LineError::Spelling), untouched)

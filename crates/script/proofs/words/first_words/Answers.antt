@@ -1,13 +1,11 @@
-use Rattle.std.proofs.Common.{lit<, rules}
-use Rattle.std.proofs.lemmas.Str.Pattern.{starts_char}
+use Rattle.std.proofs.Common.{rules}
 use Rattle.script.proofs.Fronts.{front_is, read_next, read_none, read_comment, read_full}
-use Rattle.script.proofs.words.first_words.Goals.{in-None, in-Some+then-count-eq7, then-count-eq7-via-then-count-eq7, then-count-eq7-via-else-count-eq7+then-starts_with}
+use Rattle.script.proofs.words.first_words.Goals.{in-None, in-Some+then-count-eq7, then-count-eq7-via-then-count-eq7, then-count-eq7-via-else-count-eq7+then-ends_words}
 use Rattle.script.proofs.words.first_words.Goals as goal
 
 pub loop-word-preserved : goal.loop-word-preserved
 loop-word-preserved c =
-    let first = starts_char 35 c.in-Some.word.now c.starts_with.result c.starts_with.ensures.cases (lit< tt) (lit< tt) in
-    read_next _ _ _ _ c.loop-word.invariant c.in-Some.word _ (λ e. search (rules, e)) (front_is _ _ _ c.in-Some.ensures.steps) (λ e. search (rules, first, e))
+    read_next _ _ _ _ c.loop-word.invariant c.in-Some.word _ (λ e. search (rules, e)) (front_is _ _ _ c.in-Some.ensures.steps) (search rules)
 
 pub returns-clause-words : goal.returns-clause-words
 returns-clause-words c =
@@ -16,8 +14,7 @@ returns-clause-words c =
       | in-Some+then-count-eq7 w ↦
           elim w.then-count-eq7.branch [
             | then-count-eq7-via-then-count-eq7 w' ↦ read_full _ _ _ _ c.loop-word.invariant (search (rules, w'.if-count-eq7))
-            | then-count-eq7-via-else-count-eq7+then-starts_with w' ↦
-                let first = starts_char 35 w.in-Some.word.now w'.starts_with.result w'.starts_with.ensures.cases (lit< tt) (lit< tt) in
-                read_comment _ _ _ _ c.loop-word.invariant w.in-Some.word.now _ (front_is _ _ _ w.in-Some.ensures.steps) (search (rules, first))
+            | then-count-eq7-via-else-count-eq7+then-ends_words w' ↦
+                read_comment _ _ _ _ c.loop-word.invariant w.in-Some.word.now _ (front_is _ _ _ w.in-Some.ensures.steps) (search rules)
           ]
     ]
