@@ -1,10 +1,18 @@
 // Bytes in hexadecimal, where `-` stands for no bytes.
+use crate::fault::Fault;
 use hex::encode;
 use std::alloc::AllocError;
 
-// Room for whatever bytes a line spells, two digits for each.
-pub fn scratch_for(rt: &HostRuntime, text: &str) -> Result<Vec<u8>, AllocError> {
-    vec![in rt.alloc(); 0; text.len() / 2]
+// Room for the bytes that a word spells, two digits for each. Where there is not so much memory, a
+// word with a wrong digit still makes its line no call.
+pub fn scratch_for(rt: &HostRuntime, word: &str) -> Result<Vec<u8>, Fault> {
+    vec![in rt.alloc(); 0; word.len() / 2].map_err(|error| {
+        if word.bytes().all(|byte| byte.is_ascii_hexdigit()) {
+            error.into()
+        } else {
+            Fault::NoCall
+        }
+    })
 }
 
 // The bytes in lower-case digits.

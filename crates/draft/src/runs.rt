@@ -5,7 +5,7 @@ use crate::profiles::profile_in;
 use drafter::{State, begin};
 use plain::{Call, Reply};
 use profile::AnyProfile;
-use script::{Line, ReadLine, Room, parse, read};
+use script::{Line, ReadLine, Room, parse};
 use std::io;
 use std::iter::Zip;
 use std::ops::RangeInclusive;
@@ -61,23 +61,31 @@ fn make_line<'a>(
     }
 }
 
-// A second begin is misplaced.
-fn obey_in<'a>(rt: &HostRuntime, state: State<'a>, text: &str, scratch: &mut [u8]) -> Obeyed<'a> {
-    let line = match read(text, scratch) {
-        Ok(line) => line,
-        Err(error) => return (state, Err(error.into())),
-    };
-    match line.line {
-        Line::Blank => (state, Ok(())),
-        Line::Begin(_) => told(rt, state, Reply::Misplaced),
-        _ => make_line(rt, state, &line, scratch),
+fn obey_in<'a>(
+    rt: &HostRuntime,
+    state: State<'a>,
+    line: Line<'_>,
+    scratch: &mut [u8],
+) -> Obeyed<'a> {
+    match line.read(scratch) {
+        Ok(line) => make_line(rt, state, &line, scratch),
+        Err(error) => (state, Err(error.into())),
     }
 }
 
+// A second begin is misplaced.
 fn obey<'a>(rt: &HostRuntime, state: State<'a>, text: &str) -> Obeyed<'a> {
-    match scratch_for(rt, text) {
-        Ok(mut scratch) => obey_in(rt, state, text, &mut scratch),
-        Err(error) => (state, Err(error.into())),
+    let line = match parse(text) {
+        Some(line) => line,
+        None => return (state, Err(Fault::NoCall)),
+    };
+    match line {
+        Line::Blank => (state, Ok(())),
+        Line::Begin(_) => told(rt, state, Reply::Misplaced),
+        _ => match scratch_for(rt, line.spelled()) {
+            Ok(mut scratch) => obey_in(rt, state, line, &mut scratch),
+            Err(fault) => (state, Err(fault)),
+        },
     }
 }
 
