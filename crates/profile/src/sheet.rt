@@ -9,6 +9,7 @@ use crate::interface::{Bounds, Profile};
 use crate::refusal::SheetRefusal;
 use crate::table::entry_or;
 use crate::values::sheet_values;
+use std::alloc::AllocError;
 use std::marker::Model;
 use wire::Slot;
 
@@ -45,6 +46,22 @@ impl Model for Sheet {
     ghost Value = { List Entry };
 
     ghost view = { λ s. s.entries };
+}
+
+// By hand, so that a caller knows the copy to be the same sheet.
+impl Clone for Sheet {
+    ghost use Rattle.std.specs.Prelude.{◌≡◌};
+    ghost use Rattle.std.specs.Bool.{⊤};
+
+    ghost is_clone = { λ sheet copy. copy ≡ sheet };
+
+    ghost is_infallible = { λ _. ⊤ };
+
+    fn clone(&self) -> Result<Sheet, AllocError> {
+        Ok(Sheet {
+            entries: self.entries,
+        })
+    }
 }
 
 // The first line.

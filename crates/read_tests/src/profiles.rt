@@ -71,6 +71,30 @@ fn questions(rt: HostRuntime) -> Result<(), Fail> {
     Ok(())
 }
 
+// A copy of a profile or of a sheet answers as the one that it was made of, which stays.
+#[test]
+fn copies_of_profiles(rt: HostRuntime) -> Result<(), Fail> {
+    let pck = AnyProfile::Fixed(Fixed::Pck);
+    let copy = pck.clone()?;
+    assert!(rt; copy.takes(3, 1));
+    assert!(rt; !copy.takes(3, 0));
+    assert_eq!(rt; copy.bounds(10), Bounds { least: 0, most: 1 });
+    assert!(rt; pck.takes(3, 1));
+    let sheet = AnyProfile::Sheet(Sheet::parse(b"slot least most rank\n2 1 3 7\n")?);
+    let copy = sheet.clone()?;
+    for profile in [&copy, &sheet] {
+        assert!(rt; profile.takes(3, 15));
+        assert_eq!(rt; profile.bounds(2), Bounds { least: 1, most: 3 });
+        assert_eq!(rt; profile.rank(2), 7);
+        assert_eq!(rt; profile.bounds(3), Bounds { least: 0, most: 0 });
+    }
+    let line = Sheet::parse(b"slot least most rank\n11 1 2 24\n")?;
+    let copy = line.clone()?;
+    assert_eq!(rt; copy.bounds(11), Bounds { least: 1, most: 2 });
+    assert_eq!(rt; copy.rank(11), 24);
+    Ok(())
+}
+
 // Fields with the lowest and the highest value that is taken, slots with their counts.
 #[test]
 fn tables_of_fixed_profiles(rt: HostRuntime) {
