@@ -1,7 +1,8 @@
 -- The lines of a sheet: what is written is read, and what is read was written.
-use Rattle.std.proofs.Common.{◌≡◌, ℕ, zero, suc, ◌-◌, ◌<◌, ◌≤◌, true, List, [], ◌∷◌, ◌++◌, length, Some, None, Ok, sym, refl, ap, ◌∙◌, subst, append_assoc, arith, length-append}
+use Rattle.std.proofs.Common.{◌≡◌, ℕ, zero, suc, ◌-◌, ◌<◌, ◌≤◌, true, List, [], ◌∷◌, ◌++◌, length, Some, None, Ok, sym, refl, ap, ◌∙◌, subst, append_assoc, inl, inr, ltb, arith, length-append}
 use Rattle.std.specs.List.{flat_map}
 use Rattle.std.proofs.lemmas.Bool.Decides.{nat_tests}
+use Rattle.std.proofs.lemmas.Bool.{cases_Bool}
 use Rattle.profile.specs.declared.refusal.SheetRefusal.TheVariants.{LineForm, LineBounds}
 use Rattle.wire.specs.Answers.{and_then}
 use Rattle.wire.proofs.Answers.{check_ok, and_then_ok, ok_or_ok, same_ok, never_ok}
@@ -81,8 +82,26 @@ behind_back above at bs r e =
     let i = line_back bs l.0 (ok_or_ok (line_in bs) (LineForm at) l.0 l.1) in
     subst (Behind above bs) (same_ok l.0 r k.1) (record { bounds = bounds_keep above l.0.0 k.0; is = i })
 
-line_some : (l : Line) → 0 < length (line_text l)
-line_some l = omega (arith, length-append {A = ℕ})
+-- a digit or two, and the byte that ends them
+number_some : (n end : ℕ) → 2 ≤ length (number_text n end)
+number_some n end = elim (cases_Bool (ltb n 10)) [ inl t ↦ rw t (omega arith) | inr t ↦ rw t (omega arith) ]
+
+line_some : (l : Line) → 8 ≤ length (line_text l)
+line_some l =
+    let a : List ℕ = number_text l.slot 32 in
+    let b : List ℕ = number_text l.entry.bounds.least 32 in
+    let c : List ℕ = number_text l.entry.bounds.most 32 in
+    let d : List ℕ = number_text l.entry.rank 10 in
+    omega (
+      arith,
+      length-append a (b ++ (c ++ d)),
+      length-append b (c ++ d),
+      length-append c d,
+      number_some l.slot 32,
+      number_some l.entry.bounds.least 32,
+      number_some l.entry.bounds.most 32,
+      number_some l.entry.rank 10,
+    )
 
 -- the slot is in the table, and what is after the line is shorter
 pub record Ahead (bs : List ℕ) (r : Line × List ℕ) : Type 0 where
