@@ -75,9 +75,8 @@ fn obey_in<'a>(
 
 // A second begin is misplaced.
 fn obey<'a>(rt: &HostRuntime, state: State<'a>, text: &str) -> Obeyed<'a> {
-    let line = match parse(text) {
-        Some(line) => line,
-        None => return (state, Err(Fault::NoCall)),
+    let Some(line) = parse(text) else {
+        return (state, Err(Fault::NoCall));
     };
     match line {
         Line::Blank => (state, Ok(())),

@@ -1,10 +1,11 @@
 -- Words, one after the other.
-use Rattle.std.proofs.Common.{◌≡◌, ℕ, zero, suc, true, false, ◌+◌, ◌-◌, ◌<◌, ◌≤◌, List, [], ◌∷◌, ◌++◌, length, map, take, subst, sym, refl, ap, ◌∙◌, append_assoc, append-nil, inl, inr, arith, slice_set}
+use Rattle.std.proofs.Common.{◌≡◌, ℕ, zero, suc, true, false, ◌+◌, ◌-◌, ◌<◌, ◌≤◌, List, [], ◌∷◌, ◌++◌, length, take, subst, sym, refl, ap, ◌∙◌, append_assoc, append-nil, inl, inr, arith, slice_set}
 use Rattle.std.specs.Borrow.{Bor}
 use Rattle.std.proofs.lemmas.List.{map-append, take_more_set, length-set}
 use Rattle.std.specs.Char.{is_whitespace, is_not_whitespace}
 use Rattle.std.specs.Str.{NoCharPasses, EmptyOrStartsWithPassing}
 use Rattle.script.specs.Words.{Front, ends_words, Words}
+use Rattle.script.specs.Lines.{texts}
 
 -- the words after those that are seen make the words of all
 abbrev pub Behind : List ℕ → List ℕ → List (List ℕ) → ℕ → Type 0
@@ -31,9 +32,6 @@ module _ (text rest : List ℕ) (seen : List (List ℕ)) where
 
   pub behind_full : Behind text rest seen 0 → Words [] 7 text seen
   behind_full b = all 0 b refl
-
-abbrev pub texts : List (Bor (List ℕ)) → List (List ℕ)
-texts words = map (λ w. w.now) words
 
 -- what is read so far
 pub record Read (text rest : List ℕ) (words : List (Bor (List ℕ))) (count : ℕ) : Type 0 where

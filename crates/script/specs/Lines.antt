@@ -5,7 +5,7 @@ use Rattle.script.specs.declared.line.Line.{Line}
 use Rattle.script.specs.declared.line.Line.TheVariants as line
 use Rattle.script.specs.declared.line.Room.{Room}
 use Rattle.script.specs.Numbers.{number_of}
-use Rattle.script.specs.Words.{Words}
+use Rattle.script.specs.Words.{Words, arguments}
 
 -- bytes are as they are spelled, and a profile is its name
 pub data Request : Type 0 where
@@ -48,9 +48,9 @@ texts words = map (λ w. w.now) words
 abbrev pub word : Lent → ℕ → List ℕ
 word words i = (slice_index_or words i (record { ref_ptr = (0, 0); now = [] })).now
 
--- the name of a call, and its arguments after it
-abbrev pub Form : Lent → List ℕ → ℕ → Type 0
-Form words name arguments = (length words ≡ suc arguments) × (word words 0 ≡ name)
+-- the name of a call, and as many arguments as it has after it
+abbrev pub Form : Lent → List ℕ → Type 0
+Form words name = (length words ≡ suc (arguments name)) × (word words 0 ≡ name)
 
 abbrev pub position_in : Lent → ℕ → Option ℕ
 position_in words i = number_of 64 (word words i)
@@ -66,38 +66,38 @@ with (Some n) next = next n
 -- what the words of a line ask for, a call a line
 pub record Requests (words : Lent) (r : Option Request) : Type 0 where
   pub blank_line : length words ≡ 0 → r ≡ Some blank
-  pub begins : Form words (codes "begin") 2
+  pub begins : Form words (codes "begin")
       → r ≡ option_map (λ room. begin room.length room.fill)
       (room_of (position_in words 1) (byte_in words 2))
-  pub heads : Form words (codes "head") 5
+  pub heads : Form words (codes "head")
       → r ≡ with (byte_in words 1) (λ byte3.
       with (number_of 32 (word words 2)) (λ csb.
       with (byte_in words 3) (λ cs.
       with (byte_in words 4) (λ map_type.
       Some (head byte3 csb cs map_type (word words 5))))))
-  pub adds : Form words (codes "add") 3
+  pub adds : Form words (codes "add")
       → r ≡ with (position_in words 1) (λ position.
       with (byte_in words 2) (λ code.
       Some (add position code (word words 3))))
-  pub replaces : Form words (codes "replace") 3
+  pub replaces : Form words (codes "replace")
       → r ≡ with (position_in words 1) (λ position.
       with (byte_in words 2) (λ code.
       Some (replace position code (word words 3))))
-  pub removes : Form words (codes "remove") 1
+  pub removes : Form words (codes "remove")
       → r ≡ with (position_in words 1) (λ position. Some (remove position))
-  pub closes : Form words (codes "close") 3
+  pub closes : Form words (codes "close")
       → r ≡ with (byte_in words 2) (λ type.
       with (position_in words 3) (λ n.
       Some (close (word words 1) type n)))
-  pub signs : Form words (codes "sign") 1 → r ≡ Some (sign (word words 1))
-  pub withdraws : Form words (codes "withdraw") 0 → r ≡ Some withdraw
-  pub releases : Form words (codes "release") 0 → r ≡ Some release
+  pub signs : Form words (codes "sign") → r ≡ Some (sign (word words 1))
+  pub withdraws : Form words (codes "withdraw") → r ≡ Some withdraw
+  pub releases : Form words (codes "release") → r ≡ Some release
   pub others : IsSome r
-      → (length words ≡ 0) ⊎ (Form words (codes "begin") 2 ⊎ (Form words (codes "head") 5
-      ⊎ (Form words (codes "add") 3 ⊎ (Form words (codes "replace") 3
-      ⊎ (Form words (codes "remove") 1 ⊎ (Form words (codes "close") 3
-      ⊎ (Form words (codes "sign") 1 ⊎ (Form words (codes "withdraw") 0
-      ⊎ Form words (codes "release") 0))))))))
+      → (length words ≡ 0) ⊎ (Form words (codes "begin") ⊎ (Form words (codes "head")
+      ⊎ (Form words (codes "add") ⊎ (Form words (codes "replace")
+      ⊎ (Form words (codes "remove") ⊎ (Form words (codes "close")
+      ⊎ (Form words (codes "sign") ⊎ (Form words (codes "withdraw")
+      ⊎ Form words (codes "release")))))))))
 
 -- what a line asks for; nothing where its words are no call
 abbrev pub Asks : List ℕ → Option Request → Type 0

@@ -1,4 +1,5 @@
 // A line of the script, read with its bytes.
+ghost use Rattle.std.specs.Prelude.{Some};
 ghost use Rattle.script.specs.Lines.{request};
 ghost use Rattle.script.specs.Reads.{Reads, ReadsBytes};
 
@@ -30,7 +31,7 @@ impl<'a> Line<'a> {
     /// The rest of the scratch stays as it was, and all of it where the line is not read: where it
     /// is too short, or else where the bytes are not spelled in pairs of hexadecimal digits.
     pub fn read(self, scratch: &mut [u8]) -> Result<ReadLine<'a>, LineError>
-        ensures { ReadsBytes (request self.entry) scratch.old scratch.new result }
+        ensures { ReadsBytes (Some (request self.entry)) scratch.old scratch.new result }
     {
         let length = decode(self.spelled(), scratch)?;
         Ok(ReadLine { line: self, length })
